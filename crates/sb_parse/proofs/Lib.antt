@@ -1,0 +1,4 @@
+pub mod Joining
+pub mod Heads
+pub mod Looping
+pub mod Reading
