@@ -1,0 +1,12 @@
+pub mod Checked
+pub mod Divisors
+pub mod Factors
+pub mod Fractions
+pub mod Kept
+pub mod Lawful
+pub mod Merging
+pub mod Narrow
+pub mod Products
+pub mod Prunes
+pub mod SameList
+pub mod Tracking
