@@ -1,0 +1,5 @@
+pub mod Divisors
+pub mod Passing
+pub mod Reversed
+pub mod Rising
+pub mod Turns

@@ -1,0 +1,8 @@
+/// What a step of the elimination comes to: there is more to do, or an answer is found.
+#[derive(Clone, Copy, Debug, PartialEq, Eq)]
+pub enum Outcome {
+    Going,
+    Proved,
+    TooManyRows,
+    TooManyDigits,
+}
