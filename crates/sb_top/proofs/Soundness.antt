@@ -1,0 +1,16 @@
+pub mod Items
+pub mod Elements
+pub mod Points
+pub mod Asked
+pub mod Bytes
+pub mod Regions
+pub mod Stepped
+pub mod Stored
+pub mod Stores
+pub mod Sequel
+pub mod Tidied
+pub mod Split
+pub mod Entered
+pub mod Walked
+pub mod Sound
+pub mod Reported

@@ -1,0 +1,81 @@
+//! From bytes to bytes: the words of a command line, the reading of a file, the rules that judge each function, the texts.
+#![tactic(auto)]
+
+mod answering;
+mod asking;
+mod command;
+mod copied;
+mod entry;
+mod facts;
+mod fetch;
+mod files;
+mod judging;
+mod lexeme;
+mod lexer;
+mod needs;
+mod param_list;
+mod params;
+mod picture;
+mod reading;
+mod regions;
+mod reply;
+mod reports;
+mod settling;
+mod splits;
+mod statements;
+mod status;
+mod stores;
+mod syntax;
+mod target;
+mod terms;
+mod texts;
+mod tidied;
+mod tidying;
+mod walks;
+mod warning;
+mod words;
+mod written;
+
+ghost use Rattle.std.specs.Prelude.{◌≡◌, ℕ, List, Option, Some, map, string_bytes};
+ghost use Rattle.sb_base.specs.Outside.{Rose};
+ghost use Rattle.sb_top.specs.Stands.{Stands};
+ghost use Rattle.sb_top.specs.Outcomes.{IsDefined, AreSafeIn};
+
+use answering::reply_to;
+pub use files::read_file;
+pub use lexeme::{Lexeme, Piece};
+pub use reading::ReadFault;
+use sb_base::{FetchFault, Library, PutFault, Sink};
+pub use status::Status;
+use std::alloc::Global;
+pub use syntax::{Comparison, Function, Param, ParamKind, Simple, Statement};
+
+/// Does what the words of a command line ask for, with the files of `lib`, and writes what there is to say into `out`.
+///
+/// `check FILE` checks the functions of a file. Where it ends as `Clean`, each of them is safe: from each state that its
+/// annotations let in, no run follows a null or wild pointer, leaves its object or reads an unwritten byte.
+pub fn prefast<L: Library, S: Sink>(
+    alloc: Global,
+    words: &[String],
+    lib: &mut L,
+    out: &mut S,
+) -> Status
+    ensures stands { Stands (IsDefined (L.held lib.old) (map string_bytes words.now)) (S.written out.old) (S.written out.new) result }
+    ensures safe { result ≡ Status.Clean → (told : List ℕ → Option (List ℕ)) → L.held lib.old ≡ Some told → AreSafeIn told (map string_bytes words.now) }
+    ensures held { L.held lib.new ≡ L.held lib.old }
+    ensures read_fault { result ≡ Status.ReadFault → Rose (L.faults lib.old) (L.faults lib.new) }
+    ensures read_told { (result ≡ Status.ReadFault → ⊥) → L.faults lib.new ≡ L.faults lib.old }
+    ensures write_fault { result ≡ Status.WriteFault → Rose (S.faults out.old) (S.faults out.new) }
+    ensures write_told { (result ≡ Status.WriteFault → ⊥) → S.faults out.new ≡ S.faults out.old }
+{
+    let reply = match reply_to(alloc, words, lib) {
+        Ok(reply) => reply,
+        Err(FetchFault::Failed) => return Status::ReadFault,
+        Err(FetchFault::Memory) => return Status::Memory,
+    };
+    match out.put(reply.text.as_slice()) {
+        Ok(()) => reply.status,
+        Err(PutFault::Failed) => Status::WriteFault,
+        Err(PutFault::Memory) => Status::Memory,
+    }
+}

@@ -1,0 +1,247 @@
+//! The lines that are written: refusals, warnings with their reasons, and the last line of a report.
+ghost use Rattle.std.specs.Prelude.{◌≡◌, ◌++◌, List, IfOk, OnOk, codes};
+ghost use Rattle.std.specs.Option.{option_copied};
+ghost use Rattle.sb_top.specs.Reports.{number_of};
+ghost use Rattle.sb_top.specs.Texts as text;
+
+use crate::picture::{Label, Part};
+use crate::warning::{Need, Warning};
+use sb_base::{Names, Place};
+use sb_term::{Answer, Rat, Sym};
+use sqlite_items::Items;
+use std::alloc::{AllocError, Global};
+
+/// The place of a file that is absent or too long.
+const NOWHERE: Place = Place {
+    file: 0,
+    line: 0,
+    col: 0,
+};
+
+/// The line that is written where the words are no command.
+pub(crate) const USAGE: &str = "usage: prefast COMMAND ARGUMENT...\n";
+
+/// The line of a refusal.
+fn refusal(
+    alloc: Global,
+    file: &[u8],
+    place: Place,
+    number: u16,
+    what: &str,
+) -> Result<Vec<u8>, AllocError>
+    ensures { IfOk result (λ line. line.items ≡ text.refusal file.now place number what.now) }
+{
+    let mut line = Vec::from_slice(alloc, file)?;
+    let rest = format!(in alloc; ":{}:{}: refused {number}: {what}\n", place.line, place.col)?;
+    line.extend_from_slice(rest.as_bytes())?;
+    Ok(line)
+}
+
+pub(crate) fn no_such_file(alloc: Global, file: &[u8]) -> Result<Vec<u8>, AllocError>
+    ensures { IfOk result (λ line. line.items ≡ text.no_such_file file.now) }
+{
+    refusal(alloc, file, NOWHERE, 21, "no such file")
+}
+
+pub(crate) fn file_too_long(alloc: Global, file: &[u8]) -> Result<Vec<u8>, AllocError>
+    ensures { IfOk result (λ line. line.items ≡ text.file_too_long file.now) }
+{
+    refusal(alloc, file, NOWHERE, 22, "file too long")
+}
+
+/// The refusal of what is in no text of the grammar.
+pub(crate) fn not_built_yet(alloc: Global, file: &[u8], place: Place) -> Result<Vec<u8>, AllocError>
+    ensures { IfOk result (λ line. line.items ≡ text.not_built_yet file.now place) }
+{
+    refusal(alloc, file, place, 33, "outside the profile: not built yet")
+}
+
+/// The number of a warning.
+fn number_of(need: Need) -> u16
+    ensures { result ≡ number_of need }
+{
+    match need {
+        Need::Present => 101,
+        Need::Known => 102,
+        Need::FromStart => 103,
+        Need::BeforeEnd => 104,
+    }
+}
+
+fn text_of(need: Need) -> &'static str
+    ensures { result.now ≡ text.text_of need }
+{
+    match need {
+        Need::Present => "may be null",
+        Need::Known => "target not known",
+        Need::FromStart => "before the start",
+        Need::BeforeEnd => "past the end",
+    }
+}
+
+fn ending_of(part: Part) -> &'static str
+    ensures { result.now ≡ text.ending_of part }
+{
+    match part {
+        Part::Number => "",
+        Part::Present => ".present",
+        Part::Extent => ".extent",
+        Part::Written => ".written",
+    }
+}
+
+/// Appends the spelling of a symbol's label.
+fn append_label(out: &mut Vec<u8>, names: &Names, held: Option<&Label>) -> Result<(), AllocError>
+    ensures { OnOk result (out.new.items ≡ out.old.items ++ text.label names.now.texts (option_copied held.entry)) }
+{
+    let Some(label) = held else {
+        return out.extend_from_slice(b"v");
+    };
+    match names.text(label.name) {
+        Some(name) => {
+            out.extend_from_slice(name)?;
+            out.extend_from_slice(ending_of(label.part).as_bytes())
+        }
+        None => out.extend_from_slice(b"v"),
+    }
+}
+
+/// Appends a whole number, or A/B in lowest terms.
+fn append_ratio(alloc: Global, out: &mut Vec<u8>, value: &Rat) -> Result<(), AllocError>
+    ensures { OnOk result (out.new.items ≡ out.old.items ++ text.ratio value.now) }
+{
+    let (above, below) = (value.numerator(), value.denominator());
+    let written = if below == 1 {
+        format!(in alloc; "{above}")?
+    } else {
+        format!(in alloc; "{above}/{below}")?
+    };
+    out.extend_from_slice(written.as_bytes())
+}
+
+/// Appends a symbol with its value.
+fn append_assigned(
+    alloc: Global,
+    out: &mut Vec<u8>,
+    names: &Names,
+    labels: &Items<Label>,
+    entry: &(Sym, Rat),
+) -> Result<(), AllocError>
+    ensures { OnOk result (out.new.items ≡ out.old.items ++ text.assigned names.now.texts labels.now entry.now) }
+{
+    let (Sym(number), value) = entry;
+    append_label(out, names, labels.get(*number as usize))?;
+    let middle = format!(in alloc; ".{number}=")?;
+    out.extend_from_slice(middle.as_bytes())?;
+    append_ratio(alloc, out, value)
+}
+
+/// Appends the symbols of a query with their values, joined by one space.
+fn append_assignment(
+    alloc: Global,
+    out: &mut Vec<u8>,
+    names: &Names,
+    labels: &Items<Label>,
+    entries: &[(Sym, Rat)],
+) -> Result<(), AllocError>
+    ensures { OnOk result (out.new.items ≡ out.old.items ++ text.assignment names.now.texts labels.now entries.now) }
+{
+    let Some((first, more)) = entries.split_first() else {
+        return out.extend_from_slice(b"-");
+    };
+    append_assigned(alloc, out, names, labels, first)?;
+    for entry in more {
+        out.extend_from_slice(b" ")?;
+        append_assigned(alloc, out, names, labels, entry)?;
+    }
+    Ok(())
+}
+
+/// Appends the second line of a warning.
+fn append_reason(
+    alloc: Global,
+    out: &mut Vec<u8>,
+    names: &Names,
+    labels: &Items<Label>,
+    answer: &Answer,
+) -> Result<(), AllocError>
+    ensures { OnOk result (out.new.items ≡ out.old.items ++ text.reason names.now.texts labels.now answer.now) }
+{
+    match answer {
+        Answer::Proved(_) => Ok(()),
+        Answer::Refuted(assignment) => {
+            out.extend_from_slice(b"  refuted by ")?;
+            append_assignment(alloc, out, names, labels, assignment.list.as_slice())?;
+            out.extend_from_slice(b"\n")
+        }
+        Answer::LimitRows => out.extend_from_slice(b"  limit: rows\n"),
+        Answer::LimitDigits => out.extend_from_slice(b"  limit: digits\n"),
+    }
+}
+
+/// Appends the lines of a warning.
+fn append_warning(
+    alloc: Global,
+    out: &mut Vec<u8>,
+    file: &[u8],
+    names: &Names,
+    warning: &Warning,
+) -> Result<(), AllocError>
+    ensures { OnOk result (out.new.items ≡ out.old.items ++ text.warning file.now names.now.texts warning.now) }
+{
+    let (place, number, what) = (
+        warning.place,
+        number_of(warning.need),
+        text_of(warning.need),
+    );
+    out.extend_from_slice(file)?;
+    let rest = format!(in alloc; ":{}:{}: warning {number}: {what}\n", place.line, place.col)?;
+    out.extend_from_slice(rest.as_bytes())?;
+    append_reason(alloc, out, names, &warning.labels, &warning.answer)
+}
+
+/// Appends the warnings of a function.
+fn append_warnings(
+    alloc: Global,
+    out: &mut Vec<u8>,
+    file: &[u8],
+    names: &Names,
+    warnings: &[Warning],
+) -> Result<(), AllocError>
+    ensures { OnOk result (out.new.items ≡ out.old.items ++ text.warnings file.now names.now.texts warnings.now) }
+{
+    for warning in warnings {
+        append_warning(alloc, out, file, names, warning)?;
+    }
+    Ok(())
+}
+
+/// How many warnings stand in a report.
+pub(crate) fn count_of(reports: &[Items<Warning>]) -> u128
+    ensures { result ≡ text.count_of reports.now }
+{
+    let mut count = 0;
+    for report in reports {
+        count += report.len() as u128;
+    }
+    count
+}
+
+/// The report: the warnings of each function, and a last line with the counts.
+pub(crate) fn report_text(
+    alloc: Global,
+    file: &[u8],
+    names: &Names,
+    reports: &[Items<Warning>],
+) -> Result<Vec<u8>, AllocError>
+    ensures { IfOk result (λ bytes. bytes.items ≡ text.report_text file.now names.now.texts reports.now) }
+{
+    let mut out = Vec::new(alloc);
+    for report in reports {
+        append_warnings(alloc, &mut out, file, names, report.as_slice())?;
+    }
+    let (warnings, functions) = (count_of(reports), reports.len());
+    let last = format!(in alloc; "{warnings} warnings in {functions} functions\n")?;
+    out.extend_from_slice(last.as_bytes())?;
+    Ok(out)
+}
