@@ -95,6 +95,7 @@ with_new texts text new = rw new refl
 table_with_new : (texts : List (List ℕ)) (text : List ℕ) (limit : ℕ) → IsTable texts limit → holds_text texts text ≡ false → length texts < limit → IsTable (with_text texts text) limit
 table_with_new texts text limit table new room = rw (with_new texts text new) record {
   within = omega (arith, length-append texts (text ∷ []));
+  fits = table.fits;
   distinct = distinct_with_new texts text table.distinct new;
 }
 

@@ -1,3 +1,4 @@
+pub mod Found
 pub mod Memory
 pub mod Names
 pub mod Outside

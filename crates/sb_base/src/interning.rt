@@ -105,4 +105,11 @@ impl Names {
         let text = self.texts.get_index(name.0 as usize)?;
         Some(text.as_slice())
     }
+
+    /// How many texts have a number.
+    pub fn count(&self) -> u32
+        ensures count { result ≡ length self.now.texts }
+    {
+        self.texts.len() as u32
+    }
 }

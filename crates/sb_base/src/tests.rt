@@ -23,6 +23,23 @@ fn interns_in_order_of_first_use(rt: HostRuntime) -> Result<(), Fail> {
 }
 
 #[test]
+fn numbers_files_in_order_of_first_use(rt: HostRuntime) -> Result<(), Fail> {
+    let mut files = Files::new(rt.alloc());
+    for (name, want) in [("a.c", 0), ("<sal.h>", 1), ("a.c", 0), ("sal.h", 2)] {
+        assert!(rt; files.count() < u32::MAX);
+        assert_eq!(rt;
+            files.number(rt.alloc(), name.as_bytes()),
+            Ok(want),
+            "at {name}"
+        );
+    }
+    assert_eq!(rt; files.count(), 3);
+    assert_eq!(rt; files.name(1), Some(b"<sal.h>".as_slice()));
+    assert_eq!(rt; files.name(3), None);
+    Ok(())
+}
+
+#[test]
 fn fetches_from_memory(rt: HostRuntime) -> Result<(), Fail> {
     let mut files = Vec::new(rt.alloc());
     for (name, bytes) in [("a", "one"), ("a", "other"), ("b", "")] {
@@ -48,6 +65,33 @@ fn fetches_from_memory(rt: HostRuntime) -> Result<(), Fail> {
         );
         assert_eq!(rt; into.as_slice(), text.as_bytes(), "at {name} {limit}");
     }
+    Ok(())
+}
+
+#[test]
+fn reads_a_file_whole(rt: HostRuntime) -> Result<(), Fail> {
+    let mut files = Vec::new(rt.alloc());
+    files.push((
+        Vec::from_slice(rt.alloc(), b"a.c")?,
+        Vec::from_slice(rt.alloc(), b"void f;")?,
+    ))?;
+    let mut library = MemLibrary::new(files, vec![in rt.alloc(); 2]?);
+    match fetch_file(rt.alloc(), &mut library, b"a.c") {
+        Ok(Found::Whole(bytes)) => assert_eq!(rt; bytes.as_slice(), b"void f;".as_slice()),
+        _ => assert!(rt; false),
+    }
+    assert!(rt;
+        matches!(
+            fetch_file(rt.alloc(), &mut library, b"b.c"),
+            Ok(Found::Missing)
+        )
+    );
+    assert!(rt;
+        matches!(
+            fetch_file(rt.alloc(), &mut library, b"a.c"),
+            Err(FetchFault::Failed)
+        )
+    );
     Ok(())
 }
 
