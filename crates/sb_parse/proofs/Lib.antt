@@ -2,3 +2,4 @@ pub mod Joining
 pub mod Heads
 pub mod Looping
 pub mod Reading
+pub mod Places
