@@ -1,6 +1,6 @@
 -- what terms keep when they are made from others
 use Rattle.std.proofs.Common.{◌≡◌, ◌↔◌, IsTrue, ℕ, zero, suc, ◌≤◌, List, [], ◌∷◌, Bool, true, false, nat_lt, ◌&&◌, ◌==◌, ℤ, pos, negsuc, ◌+ℤ◌, ◌*ℤ◌, if◌then◌else◌, refl, ap, ◌∙◌, arith}
-use Rattle.std.proofs.lemmas.Bool.{ltb-true, ltb-false}
+use Rattle.std.proofs.lemmas.Bool.{ltb-true, ltb-false, and_parts, and_from}
 use Rattle.std.proofs.lemmas.Bool.Decides.{Decides-eqb, Decides-int_eq}
 use Rattle.std.specs.Ordering.{int_eq}
 use Rattle.sb_term.specs.declared.entry.Entry.{Entry}
@@ -106,19 +106,11 @@ pub entries_decide : (x y : Entry)
     → (((x.symbol == y.symbol) && int_eq x.coefficient y.coefficient) ≡ true → x ≡ y)
     × (x ≡ y → ((x.symbol == y.symbol) && int_eq x.coefficient y.coefficient) ≡ true)
 entries_decide x y = (
-  λ h. one (and_true (x.symbol == y.symbol) (int_eq x.coefficient y.coefficient) h),
-  λ e. both_true (x.symbol == y.symbol) (int_eq x.coefficient y.coefficient)
+  λ h. one (and_parts (x.symbol == y.symbol) (int_eq x.coefficient y.coefficient) h),
+  λ e. and_from (x.symbol == y.symbol) (int_eq x.coefficient y.coefficient)
       ((Decides-eqb x.symbol y.symbol).1 (ap (λ (z : Entry). z.symbol) e)) ((Decides-int_eq x.coefficient y.coefficient).1 (ap (λ (z : Entry). z.coefficient) e)),
 )
   where
-    and_true : (a b : Bool) → (a && b) ≡ true → (a ≡ true) × (b ≡ true)
-    and_true true b h = (refl, h)
-    and_true false b h = absurd (let e : false ≡ true = h in cc)
-
-    both_true : (a b : Bool) → a ≡ true → b ≡ true → (a && b) ≡ true
-    both_true true b h k = k
-    both_true false b h k = h
-
     one : ((x.symbol == y.symbol) ≡ true) × (int_eq x.coefficient y.coefficient ≡ true) → x ≡ y
     one p =
         ap (λ n. record { symbol = n; coefficient = x.coefficient }) ((Decides-eqb x.symbol y.symbol).0 p.0)

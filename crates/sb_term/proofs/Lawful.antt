@@ -6,6 +6,7 @@ use Rattle.std.proofs.lemmas.Float.{T_from_true}
 use Rattle.std.proofs.lemmas.Option.{unwrap_or-slice_get}
 use Rattle.std.proofs.lemmas.List.{length-map}
 use Rattle.std.proofs.lemmas.List.Elements.{All-nil, All-cons}
+use Rattle.std.proofs.lemmas.Bool.{and_parts}
 use Rattle.sb_term.specs.declared.row.Row.{Row}
 use Rattle.sb_term.specs.declared.sym.Sym.{Sym}
 use Rattle.sb_term.specs.declared.steps.Step.{Step}
@@ -24,7 +25,7 @@ use Rattle.sb_term.specs.Pruning.{pruned}
 use Rattle.sb_term.specs.Bounds.{values, in_order, zero_ratio}
 use Rattle.sb_term.specs.AnswerOf.{is_from_zero, is_up_to_minus_one, facts_stand, is_refuted_by, refuted, answer_from, answer_of}
 use Rattle.sb_term.proofs.Checked.{row_at-last}
-use Rattle.sb_term.proofs.Tracking.{Keeps, keeps_on, IsNamed, IsTracked, IsOwn, Ends, place-keeps, eliminate_all-keeps, and_left, and_right}
+use Rattle.sb_term.proofs.Tracking.{Keeps, keeps_on, IsNamed, IsTracked, IsOwn, Ends, place-keeps, eliminate_all-keeps}
 use Rattle.sb_term.proofs.Prunes.{proves_pruned, length-first_rows}
 
 -- a row that holds nowhere among the facts and the negated goal
@@ -141,8 +142,8 @@ facts_from_test : (a : List (Sym × Ratio)) (fs : List Row) → facts_stand a fs
 facts_from_test a [] h = All-nil (λ (f : Row). IsSomeAnd (value_under a f.term) (IsAtMost zero_ratio))
 facts_from_test a (f ∷ fs) h =
     All-cons (λ (f : Row). IsSomeAnd (value_under a f.term) (IsAtMost zero_ratio)) f fs
-    (from_zero (value_under a f.term) (and_left (is_from_zero (value_under a f.term)) (facts_stand a fs) h))
-    (facts_from_test a fs (and_right (is_from_zero (value_under a f.term)) (facts_stand a fs) h))
+    (from_zero (value_under a f.term) (and_parts (is_from_zero (value_under a f.term)) (facts_stand a fs) h).0)
+    (facts_from_test a fs (and_parts (is_from_zero (value_under a f.term)) (facts_stand a fs) h).1)
 
 symbols-in_order : (known : List (Sym × Ratio)) (ss : List ℕ) → map (λ x. x.0.0) (in_order known ss) ≡ ss
 symbols-in_order known [] = refl
@@ -153,8 +154,8 @@ refutes_from_test q known h =
     let a = in_order known (symbols_of q) in
     record {
       symbols = symbols-in_order known (symbols_of q);
-      facts = facts_from_test a q.facts (and_left (facts_stand a q.facts) (is_up_to_minus_one (value_under a q.goal.term)) h);
-      goal = up_to_minus_one (value_under a q.goal.term) (and_right (facts_stand a q.facts) (is_up_to_minus_one (value_under a q.goal.term)) h);
+      facts = facts_from_test a q.facts (and_parts (facts_stand a q.facts) (is_up_to_minus_one (value_under a q.goal.term)) h).0;
+      goal = up_to_minus_one (value_under a q.goal.term) (and_parts (facts_stand a q.facts) (is_up_to_minus_one (value_under a q.goal.term)) h).1;
     }
 
 lawful_refuted : (q : Query) (known : Option (List (Sym × Ratio))) → IsLawful q (refuted q known)

@@ -1,6 +1,6 @@
+pub mod Backward
 pub mod Checked
 pub mod Divisors
-pub mod Factors
 pub mod Fractions
 pub mod Kept
 pub mod Lawful

@@ -2,6 +2,7 @@
 use Rattle.std.proofs.Common.{◌≡◌, ℕ, zero, suc, ◌+◌, ◌-◌, ◌<◌, List, [], ◌∷◌, ◌++◌, length, get_or, take, drop, drop-cons, add-one, length-drop, Bool, true, false, ◌&&◌, Err, IsErrOf, ℤ, pos, negsuc, ◌*ℤ◌, refl, sym, ap, ◌∙◌, subst, arith}
 use Rattle.std.proofs.lemmas.List.{append_assoc, append-nil}
 use Rattle.std.proofs.lemmas.Grind.{common_steps}
+use Rattle.std.proofs.lemmas.Bool.{and_left, and_parts}
 use Rattle.sb_term.specs.declared.entry.Entry.{Entry}
 use Rattle.sb_term.specs.Linear.{keep, scaled_entries, merged, is_narrow, are_narrow}
 use Rattle.sb_term.specs.Fronts.{IsFront, IsMerging}
@@ -19,10 +20,6 @@ and-left : (a b : Bool) → a ≡ true → (a && b) ≡ b
 and-left true b h = refl
 and-left false b h = cc
 
-and-false : (a b : Bool) → a ≡ false → (a && b) ≡ false
-and-false true b h = cc
-and-false false b h = refl
-
 pub are_narrow-keep : (s : ℕ) (c : ℤ) (es : List Entry) → is_narrow c ≡ true → are_narrow (keep s c es) ≡ are_narrow es
 are_narrow-keep s (pos zero) es h = refl
 are_narrow-keep s (pos (suc n)) es h = and-left (is_narrow (pos (suc n))) (are_narrow es) h
@@ -30,8 +27,8 @@ are_narrow-keep s (negsuc n) es h = and-left (is_narrow (negsuc n)) (are_narrow 
 
 pub are_narrow-keep_wide : (s : ℕ) (c : ℤ) (es : List Entry) → is_narrow c ≡ false → are_narrow (keep s c es) ≡ false
 are_narrow-keep_wide s (pos zero) es h = absurd (let e : true ≡ false = h in cc)
-are_narrow-keep_wide s (pos (suc n)) es h = and-false (is_narrow (pos (suc n))) (are_narrow es) h
-are_narrow-keep_wide s (negsuc n) es h = and-false (is_narrow (negsuc n)) (are_narrow es) h
+are_narrow-keep_wide s (pos (suc n)) es h = and_left (is_narrow (pos (suc n))) (are_narrow es) h
+are_narrow-keep_wide s (negsuc n) es h = and_left (is_narrow (negsuc n)) (are_narrow es) h
 
 module _ (a b : ℤ) (xs ys left right out : List Entry) (m : IsMerging a b xs ys left right out) where
   module _ (s : ℕ) (c : ℤ) (more_left more_right : List Entry) (f : IsFront a b left right s c more_left more_right) where
@@ -106,11 +103,7 @@ narrow_behind : (xs : List Entry) (i : ℕ) → are_narrow xs ≡ true → are_n
 narrow_behind [] zero h = h
 narrow_behind [] (suc i) h = h
 narrow_behind (x ∷ xs) zero h = h
-narrow_behind (x ∷ xs) (suc i) h = narrow_behind xs i (by (is_narrow x.coefficient) (are_narrow xs) h)
-  where
-    by : (a b : Bool) → (a && b) ≡ true → b ≡ true
-    by true b h = h
-    by false b h = cc
+narrow_behind (x ∷ xs) (suc i) h = narrow_behind xs i (and_parts (is_narrow x.coefficient) (are_narrow xs) h).1
 
 -- one more entry c times
 pub scaling_on : (c : ℤ) (xs out more_out : List Entry) (i : ℕ) (d : Entry) → i < length xs → are_narrow xs ≡ true

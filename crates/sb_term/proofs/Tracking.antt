@@ -1,10 +1,10 @@
 -- placing and forming keep each standing row the row of its number, and end only in a row that holds nowhere
 use Rattle.std.proofs.Common.{◌≡◌, ℕ, zero, ◌+◌, ◌/◌, suc, ◌<◌, ◌≤◌, ◌^◌, Bool, true, false, cond, List, [], ◌∷◌, ◌++◌, length, Option, Some, None, ℤ, pos, refl, sym, ap, ◌∙◌, arith, length-append, subst, ⊎_elim}
-use Rattle.std.specs.Prelude.{int_lt, nat_lt, nat_le, unsigned_abs, slice_index_or, ◌&&◌, filter, All, position}
+use Rattle.std.specs.Prelude.{int_lt, nat_lt, nat_le, unsigned_abs, slice_index_or, filter, All, position}
 use Rattle.std.proofs.lemmas.List.Elements.{All-push, All-set, All-filter, All-weaker, All-head, All-tail, All-nil, All-cons}
 use Rattle.std.proofs.lemmas.List.{get_or_past}
 use Rattle.std.proofs.lemmas.Int.{ints}
-use Rattle.std.proofs.lemmas.Bool.{cases_lt, ltb-true}
+use Rattle.std.proofs.lemmas.Bool.{cases_lt, ltb-true, and_parts}
 use Rattle.sb_term.specs.declared.entry.Entry.{Entry}
 use Rattle.sb_term.specs.declared.steps.Step.{Step}
 use Rattle.sb_term.specs.declared.numbered.Numbered.{Numbered}
@@ -14,16 +14,8 @@ use Rattle.sb_term.specs.Steps.{row_at, row_of, rows_of, IsStep, AreChecked, IsA
 use Rattle.sb_term.specs.StepLaws.{length-rows_of}
 use Rattle.sb_term.specs.Elimination.{State, Progress, going, proved, too_many_rows, too_many_digits, on_going, tighter, put_at, put, placed, place, place_formed, with_step, take_step, are_factors, size_in, combine, combine_each, combine_all, aside_for, with_aside, eliminate, is_positive, is_negative, is_without, eliminate_all, cheapest, without}
 use Rattle.sb_term.specs.Ratio.{gcd}
-use Rattle.sb_term.proofs.Factors.{div-gcd_left, div-gcd_right}
+use Rattle.sb_term.proofs.Divisors.{IsGcd-gcd, quotient_positive}
 use Rattle.sb_term.proofs.Checked.{row_at-more, row_at-last}
-
-pub and_left : (a b : Bool) → (a && b) ≡ true → a ≡ true
-and_left true b h = refl
-and_left false b h = h
-
-pub and_right : (a b : Bool) → (a && b) ≡ true → b ≡ true
-and_right true b h = h
-and_right false b h = cc
 
 -- what holds of the state where there is more to do, and of the steps where the end is reached
 abbrev pub Keeps : (State → Type 0) → (List Step → Type 0) → Progress → Type 0
@@ -139,9 +131,9 @@ module _ (first : List Linear) (old : List Step) where
       let e : row_of rows s ≡ t = ap (λ (u : Linear). combined (pos a) u (pos b) (row_at rows y.number) (pos 0)) nx.is ∙ ap (λ (u : Linear). combined (pos a) x.term (pos b) u (pos 0)) ny.is in
       factored-keeps (are_factors a b) s st t k (λ f w. record {
         a_positive = pa;
-        a_narrow = ltb-true a (2 ^ 40) (and_left (nat_lt a (2 ^ 40)) (nat_lt b (2 ^ 40)) f);
+        a_narrow = ltb-true a (2 ^ 40) (and_parts (nat_lt a (2 ^ 40)) (nat_lt b (2 ^ 40)) f).0;
         b_positive = pb;
-        b_narrow = ltb-true b (2 ^ 40) (and_right (nat_lt a (2 ^ 40)) (nat_lt b (2 ^ 40)) f);
+        b_narrow = ltb-true b (2 ^ 40) (and_parts (nat_lt a (2 ^ 40)) (nat_lt b (2 ^ 40)) f).1;
         i_stands = nx.stands;
         j_stands = ny.stands;
         within = ap is_within e ∙ w;
@@ -156,7 +148,7 @@ module _ (first : List Linear) (old : List Step) where
   combine-keeps s x y st cx cy k =
       let a : ℕ = size_in s x in
       let b : ℕ = size_in s y in
-      take_step-keeps (b / gcd a b) x (a / gcd a b) y st k (k.grown x cx.named) (k.grown y cy.named) (div-gcd_right a b cy.size) (div-gcd_left a b cx.size)
+      take_step-keeps (b / gcd a b) x (a / gcd a b) y st k (k.grown x cx.named) (k.grown y cy.named) (quotient_positive (gcd a b) b cy.size (IsGcd-gcd a b).1) (quotient_positive (gcd a b) a cx.size (IsGcd-gcd a b).0)
 
   combine_each-keeps : (s : ℕ) (x : Numbered) (ys : List Numbered) (st : State) → IsCombined s x → All (IsCombined s) ys → Tracked st → Keeps Tracked (Ends first) (combine_each s x ys st)
   combine_each-keeps s x [] st cx cys k = k

@@ -28,7 +28,7 @@ abbrev pub is_refuted_by : Query → List (Sym × Ratio) → Bool
 is_refuted_by q a = facts_stand a q.facts && is_up_to_minus_one (value_under a q.goal.term)
 
 -- LimitDigits where a value passes a limit. A fact below 0 or a goal above -1 would give it too, but by the theorem of
--- Fourier and Motzkin no elimination that ends leaves such values.
+-- Fourier and Motzkin no elimination of terms leaves such values: `limit_digits` of proofs/Backward/Refuting.
 abbrev pub refuted : Query → Option (List (Sym × Ratio)) → Answer
 refuted q None = LimitDigits
 refuted q (Some known) =

@@ -11,7 +11,7 @@ pub mod Elimination
 pub mod Pruning
 pub mod Bounds
 pub mod AnswerOf
-pub mod GcdLaws
+pub mod Passed
 pub mod Ring
 pub mod Values
 pub mod StepLaws

@@ -12,7 +12,7 @@ use Rattle.sb_term.specs.Ratio.{Ratio, IsAtMost, ratio_le, ratio_cmp}
 
 -- a / k, b / m and c / n by cross products
 module _ (a b c : ℤ) (k m n : ℕ) (hk : 0 < k) (hm : 0 < m) (hn : 0 < n) where
-  less_less : (a *ℤ pos m) <ℤ (b *ℤ pos k) → (b *ℤ pos n) <ℤ (c *ℤ pos m) → (a *ℤ pos n) <ℤ (c *ℤ pos k)
+  pub less_less : (a *ℤ pos m) <ℤ (b *ℤ pos k) → (b *ℤ pos n) <ℤ (c *ℤ pos m) → (a *ℤ pos n) <ℤ (c *ℤ pos k)
   less_less h g =
       let p : up a * m + down b * k < up b * k + down a * m = omega (arith, ints) in
       let q : up b * n + down c * m < up c * m + down b * n = omega (arith, ints) in
@@ -22,7 +22,7 @@ module _ (a b c : ℤ) (k m n : ℕ) (hk : 0 < k) (hm : 0 < m) (hn : 0 < n) wher
       let s = lt_of_mul-lt-mul_left m r in
       omega (arith, ints)
 
-  same_less : a *ℤ pos m ≡ b *ℤ pos k → (b *ℤ pos n) <ℤ (c *ℤ pos m) → (a *ℤ pos n) <ℤ (c *ℤ pos k)
+  pub same_less : a *ℤ pos m ≡ b *ℤ pos k → (b *ℤ pos n) <ℤ (c *ℤ pos m) → (a *ℤ pos n) <ℤ (c *ℤ pos k)
   same_less h g =
       let p : up a * m + down b * k ≡ up b * k + down a * m = omega (arith, ints) in
       let q : up b * n + down c * m < up c * m + down b * n = omega (arith, ints) in
@@ -42,7 +42,7 @@ module _ (a b c : ℤ) (k m n : ℕ) (hk : 0 < k) (hm : 0 < m) (hn : 0 < n) wher
       let s = lt_of_mul-lt-mul_left m r in
       omega (arith, ints)
 
-  same_same : a *ℤ pos m ≡ b *ℤ pos k → b *ℤ pos n ≡ c *ℤ pos m → a *ℤ pos n ≡ c *ℤ pos k
+  pub same_same : a *ℤ pos m ≡ b *ℤ pos k → b *ℤ pos n ≡ c *ℤ pos m → a *ℤ pos n ≡ c *ℤ pos k
   same_same h g =
       let p : up a * m + down b * k ≡ up b * k + down a * m = omega (arith, ints) in
       let q : up b * n + down c * m ≡ up c * m + down b * n = omega (arith, ints) in

@@ -6,9 +6,13 @@ use std::alloc::{AllocError, Global};
 /// What is found of a query.
 #[derive(Drop)]
 pub enum Answer {
+    /// It follows, by these steps.
     Proved(Steps),
+    /// It does not follow over rationals: all facts hold at these values and the goal does not.
     Refuted(Assignment),
+    /// More than 2,048 rows would stand.
     LimitRows,
+    /// A row or a value passes a limit of numbers.
     LimitDigits,
 }
 

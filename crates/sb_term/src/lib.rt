@@ -20,7 +20,7 @@ mod term;
 pub use answer::Answer;
 pub use aside::Aside;
 pub use decide::Decide;
-pub use divisor::common_divisor;
+pub use divisor::{cancelled, common_divisor};
 pub use entry::Entry;
 pub use fault::{DecideFault, TermFault};
 pub use numbered::Numbered;
