@@ -1,4 +1,3 @@
-pub mod Divisors
 pub mod Passing
 pub mod Reversed
 pub mod Rising

@@ -1,4 +1,5 @@
-ghost use Rattle.std.specs.Prelude.{◌≡◌, ◌+◌, [], length, reverse, IfOk};
+ghost use Rattle.std.specs.Prelude.{◌≡◌, ◌↔◌, ◌+◌, [], true, length, reverse, IfOk};
+ghost use Rattle.sb_term.specs.Passed.{passes_limit};
 ghost use Rattle.sb_term.specs.Refutes.{value_under as term_value};
 ghost use Rattle.sb_term.specs.Elimination.{start as started, eliminate_all, on_going};
 ghost use Rattle.sb_term.specs.Pruning.{pruned as pruned_steps};
@@ -109,7 +110,8 @@ fn answer_from(
 
 /// The answer of the elimination.
 pub fn answer(alloc: Global, query: &Query) -> Result<Answer, AllocError>
-    ensures { IfOk result (λ x. x ≡ answer_of query.now) }
+    ensures value { IfOk result (λ x. x ≡ answer_of query.now) }
+    ensures limit { IfOk result (λ x. (x ≡ Answer.LimitDigits) ↔ (passes_limit query.now ≡ true)) }
 {
     let symbols = symbols_of(alloc, query)?;
     let mut state = new_state(alloc, query)?;

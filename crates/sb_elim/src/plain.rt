@@ -1,15 +1,19 @@
-ghost use Rattle.std.specs.Prelude.{None};
+ghost use Rattle.std.specs.Prelude.{◌≡◌, None};
 
 use crate::answer::answer;
 use sb_term::{Answer, Decide, DecideFault, Query};
 use std::alloc::Global;
 
-/// The decider that keeps its rows in a plain list. Its only fault is want of memory.
+/// The decider that keeps its rows in a plain list. It answers `LimitDigits` exactly where a number passes a limit, and
+/// its only fault is want of memory.
 #[derive(Clone, Copy, Debug, PartialEq, Eq)]
 pub struct Plain;
 
 impl Plain {
-    pub fn new() -> Plain {
+    /// A decider that has no stop.
+    pub fn new() -> Plain
+        ensures { ⟦<Plain as Decide>⟧.stop result ≡ None }
+    {
         Plain
     }
 }

@@ -1,5 +1,7 @@
-ghost use Rattle.std.specs.Prelude.{◌≡◌, nat_lt, length, IfOk, OnOk};
+ghost use Rattle.std.specs.Prelude.{◌≡◌, nat_lt, length, All, IfOk, OnOk};
 ghost use Rattle.std.specs.List.{prefix_len};
+ghost use Rattle.sb_term.specs.Linear.{IsTerm};
+ghost use Rattle.sb_term.specs.Passed.{AreTerms};
 ghost use Rattle.sb_term.specs.Refutes.{with_symbol, with_symbols, with_rows, symbols_of as symbols_in};
 ghost use Rattle.sb_elim.specs.Outcomes.{stands_in};
 
@@ -41,7 +43,8 @@ fn add_symbols(symbols: &mut Vec<u64>, entries: &[Entry]) -> Result<(), AllocErr
 }
 
 fn add_rows(symbols: &mut Vec<u64>, rows: &[Row]) -> Result<(), AllocError>
-    ensures { OnOk result (symbols.new.items ≡ with_rows rows.now symbols.old.items) }
+    ensures items { OnOk result (symbols.new.items ≡ with_rows rows.now symbols.old.items) }
+    ensures terms { OnOk result (All (λ r. IsTerm r.term) rows.now) }
 {
     for row in rows {
         add_symbols(symbols, row.term.entries())?;
@@ -51,7 +54,8 @@ fn add_rows(symbols: &mut Vec<u64>, rows: &[Row]) -> Result<(), AllocError>
 
 /// The symbols of a query in rising number.
 pub fn symbols_of(alloc: Global, query: &Query) -> Result<Vec<u64>, AllocError>
-    ensures { IfOk result (λ v. v.items ≡ symbols_in query.now) }
+    ensures items { IfOk result (λ v. v.items ≡ symbols_in query.now) }
+    ensures terms { OnOk result (AreTerms query.now) }
 {
     let mut symbols = Vec::new(alloc);
     add_rows(&mut symbols, query.facts.as_slice())?;
