@@ -1,0 +1,11 @@
+pub mod DefiningLaws
+pub mod DefiningOnce
+pub mod Expanding
+pub mod ExpansionLaws
+pub mod GivenPlaces
+pub mod LinePlaces
+pub mod Lists
+pub mod OnlyAnswers
+pub mod Sameness
+pub mod Splitting
+pub mod Tables
