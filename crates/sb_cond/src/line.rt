@@ -1,0 +1,332 @@
+//! Whether the condition of `#if` and `#elif` holds (C99 6.10.1).
+
+ghost use Rattle.std.specs.Prelude.{◌≡◌, ◌-◌, ◌^◌, ◌<◌, max, false, IfOk, IfErr, Bool, length, slice_get, unwrap_or};
+ghost use Rattle.sb_cond.specs.Condition as spec;
+ghost use Rattle.sb_lex.specs.Values.{number_of};
+ghost use Rattle.sb_cond.specs.Readers.{below, sequence};
+
+use crate::arithmetic::{Operand, Operator};
+use crate::expression::sequence;
+use crate::reading::Read;
+use crate::sign::{ConditionToken, Sign};
+use sb_base::{Names, Place, PpKind, Refusal, Stop};
+use sb_lex::{PpToken, character_value, number_value};
+use std::alloc::{AllocError, Global};
+
+/// The position at which a line is refused: that of an operator without a value, or else that of the token at which
+/// no expression goes on so, the last one where all are read.
+fn refused_at(fault: Option<u32>, count: usize, left: usize) -> usize
+    ensures at { result ≡ unwrap_or fault (count - max left 1) }
+{
+    match fault {
+        Some(at) => at as usize,
+        None => count.saturating_sub(left.max(1)),
+    }
+}
+
+fn truth_of(read: Read<Operand>, count: usize) -> Result<bool, usize>
+    ensures truth { result ≡ spec.truth_of read.entry.value.value read.entry.rest.now count }
+{
+    match read.value.value {
+        Err(at) => Err(at as usize),
+        Ok(value) if read.rest.is_empty() => Ok(value != 0),
+        Ok(_) => Err(refused_at(None, count, read.rest.len())),
+    }
+}
+
+/// Whether a condition holds. An error is the position of the token at which it is refused, 0 where there is none.
+fn judge(tokens: &[ConditionToken]) -> Result<bool, usize>
+    ensures holds { IfOk result (spec.HasTruth tokens.now) }
+    ensures refused { IfErr result (spec.IsRefusedAt tokens.now) }
+{
+    match sequence(tokens, 200) {
+        Ok(read) => truth_of(read, tokens.len()),
+        Err(stop) => Err(refused_at(stop.fault, tokens.len(), stop.left)),
+    }
+}
+
+/// The sign of a punctuator by its spelling (C99 6.4.6).
+fn punctuator_sign(text: &[u8]) -> Sign
+    ensures sign { result ≡ spec.punctuator_sign text.now }
+{
+    match text {
+        b"(" => Sign::Open,
+        b")" => Sign::Close,
+        b"?" => Sign::Question,
+        b":" => Sign::Colon,
+        b"," => Sign::Comma,
+        b"~" => Sign::Complement,
+        b"!" => Sign::Not,
+        b"||" => Sign::Binary(Operator::Or),
+        b"&&" => Sign::Binary(Operator::And),
+        b"|" => Sign::Binary(Operator::BitOr),
+        b"^" => Sign::Binary(Operator::BitXor),
+        b"&" => Sign::Binary(Operator::BitAnd),
+        b"==" => Sign::Binary(Operator::Equal),
+        b"!=" => Sign::Binary(Operator::NotEqual),
+        b"<" => Sign::Binary(Operator::Less),
+        b">" => Sign::Binary(Operator::Greater),
+        b"<=" => Sign::Binary(Operator::AtMost),
+        b">=" => Sign::Binary(Operator::AtLeast),
+        b"<<" => Sign::Binary(Operator::ShiftLeft),
+        b">>" => Sign::Binary(Operator::ShiftRight),
+        b"+" => Sign::Binary(Operator::Add),
+        b"-" => Sign::Binary(Operator::Subtract),
+        b"*" => Sign::Binary(Operator::Multiply),
+        b"/" => Sign::Binary(Operator::Divide),
+        b"%" => Sign::Binary(Operator::Remainder),
+        _ => Sign::Other,
+    }
+}
+
+/// Whether an integer constant has a suffix `u` or `U`: no digit is written so.
+fn has_unsigned_suffix(text: &[u8]) -> bool
+    ensures suffix { result ≡ spec.has_unsigned_suffix text.now }
+{
+    text.iter().any(|byte| *byte == b'u' || *byte == b'U')
+}
+
+fn number_sign(text: &[u8]) -> Sign
+    ensures sign { result ≡ spec.number_sign text.now (number_of text.now) }
+{
+    match number_value(text) {
+        Some(bits) => Sign::Number {
+            bits,
+            unsigned: has_unsigned_suffix(text) || bits >= 1 << 63,
+        },
+        None => Sign::Other,
+    }
+}
+
+fn character_sign(text: &[u8]) -> Sign
+    ensures sign { spec.IsCharacterSign text.now result }
+{
+    match character_value(text) {
+        Some(bits) => Sign::Number {
+            bits,
+            unsigned: false,
+        },
+        None => Sign::Other,
+    }
+}
+
+/// What a piece is in a condition. A name that is left is 0 (C99 6.10.1 paragraph 4).
+fn sign_of(kind: PpKind, text: &[u8]) -> Sign
+    ensures sign { spec.HasSign kind text.now result }
+{
+    match kind {
+        PpKind::Word => Sign::Number {
+            bits: 0,
+            unsigned: false,
+        },
+        PpKind::Number => number_sign(text),
+        PpKind::Char => character_sign(text),
+        PpKind::Punct => punctuator_sign(text),
+        PpKind::Text | PpKind::Header => Sign::Other,
+    }
+}
+
+fn sign_in(names: &Names, piece: &PpToken) -> Sign
+    ensures sign { spec.HasSignIn piece.now.kind (slice_get names.now.texts piece.now.text.0) result }
+{
+    match names.text(piece.text) {
+        Some(text) => sign_of(piece.kind, text),
+        None => Sign::Other,
+    }
+}
+
+fn tokens_of(
+    alloc: Global,
+    names: &Names,
+    line: &[PpToken],
+) -> Result<Vec<ConditionToken>, AllocError>
+    requires count { length line.now < 2 ^ 32 }
+    ensures tokens { IfOk result (λ tokens. spec.AreTokens names.now.texts line.now tokens.items) }
+{
+    let mut tokens = Vec::new(alloc);
+    for (index, piece) in line.iter().enumerate() {
+        tokens.push(ConditionToken {
+            sign: sign_in(names, piece),
+            at: index as u32,
+        })?;
+    }
+    Ok(tokens)
+}
+
+/// Whether the condition of an `#if` or `#elif` line holds (C99 6.10.1, 6.6), by the pieces behind that word once macros
+/// and `defined` are replaced: `&&`, `||` and `?:` leave out what they do not evaluate, the arithmetic is of 64 bits,
+/// signed or unsigned, and what overflows wraps.
+///
+/// Refused as 26 where the pieces are no expression, at the first piece with which none goes on so or at the last one,
+/// and at an operator that is evaluated and has no value, whichever comes first; at `end` where there is no piece.
+/// Parentheses, operators before an operand and `?:` may be nested 200 deep, so that the stack is never the limit: a
+/// piece that would bring one level more is refused as one with which no expression goes on.
+pub fn condition(alloc: Global, names: &Names, line: &[PpToken], end: Place) -> Result<bool, Stop>
+    requires count { length line.now < 2 ^ 32 }
+    ensures holds { IfOk result (spec.LineHolds names.now.texts line.now) }
+    ensures fault { IfErr result (spec.IsLineFault names.now.texts line.now end) }
+    ensures only { (holds : Bool) → spec.LineHolds names.now.texts line.now holds → spec.IsAnswer holds result }
+{
+    let Ok(tokens) = tokens_of(alloc, names, line) else {
+        return Err(Stop::Memory);
+    };
+    match judge(tokens.as_slice()) {
+        Ok(holds) => Ok(holds),
+        Err(at) => Err(Stop::Refused(Refusal {
+            number: 26,
+            place: place_in(line, end, at),
+            feature: 0,
+        })),
+    }
+}
+
+fn place_in(line: &[PpToken], end: Place, at: usize) -> Place
+    ensures place { result ≡ spec.place_in line.now end at }
+{
+    match line.get(at) {
+        Some(piece) => piece.place,
+        None => end,
+    }
+}
+
+#[cfg(test)]
+mod tests {
+    use super::*;
+    use sb_base::{Name, NamesFault};
+    use std::test::Fail;
+
+    fn kind_of(text: &str) -> PpKind {
+        match text.as_bytes().first() {
+            Some(b'0'..=b'9') => PpKind::Number,
+            Some(b'a'..=b'z') => PpKind::Word,
+            Some(b'\'') => PpKind::Char,
+            Some(b'"') => PpKind::Text,
+            _ => PpKind::Punct,
+        }
+    }
+
+    /// The words of a text as pieces, each at the column of its position.
+    fn pieces(alloc: Global, names: &mut Names, text: &str) -> Result<Vec<PpToken>, NamesFault> {
+        let mut line = Vec::new(alloc);
+        let mut col = 0;
+        for word in text.split(' ') {
+            let name = names.intern(alloc, word.as_bytes())?;
+            line.push(piece(kind_of(word), name, col))?;
+            col = next(col);
+        }
+        Ok(line)
+    }
+
+    fn next(col: u32) -> u32 {
+        if col < u32::MAX { col + 1 } else { col }
+    }
+
+    fn piece(kind: PpKind, text: Name, col: u32) -> PpToken {
+        PpToken {
+            kind,
+            text,
+            place: Place {
+                file: 0,
+                line: 1,
+                col,
+            },
+            first: false,
+            spaced: true,
+        }
+    }
+
+    fn refused(col: u32) -> Result<bool, Stop> {
+        Err(Stop::Refused(Refusal {
+            number: 26,
+            place: Place {
+                file: 0,
+                line: 1,
+                col,
+            },
+            feature: 0,
+        }))
+    }
+
+    #[test]
+    fn judges_lines(rt: HostRuntime) -> Result<(), Fail> {
+        let end = Place {
+            file: 0,
+            line: 1,
+            col: 99,
+        };
+        for (text, want) in [
+            ("1", Ok(true)),
+            ("name", Ok(false)),
+            ("1 + 2 * 3 == 7", Ok(true)),
+            ("- 1 < 0", Ok(true)),
+            ("- 1 < 0u", Ok(false)),
+            ("- 1 > 9223372036854775808", Ok(true)),
+            ("- 1 >> 63 == - 1", Ok(true)),
+            ("'a' == 97 && ! 0", Ok(true)),
+            ("0 && 1 / 0", Ok(false)),
+            ("1 || 1 << 64", Ok(true)),
+            ("1 ? 2 : 1 % 0", Ok(true)),
+            ("0 ? 1 , 2 : 0", Ok(false)),
+            ("0 ? 1 : 0 ? 1 : 2", Ok(true)),
+            ("( 1 ? - 1 : 0u ) > 0", Ok(true)),
+            ("1 / 0", refused(1)),
+            ("1 / 0 )", refused(1)),
+            ("0 && 1 / 0 )", refused(5)),
+            ("1 << - 1", refused(1)),
+            ("1 , 2", refused(1)),
+            ("1 +", refused(1)),
+            ("( 1", refused(1)),
+            ("1 2", refused(1)),
+            ("1 = 2", refused(1)),
+            ("\"a\"", refused(0)),
+            ("1.5", refused(0)),
+        ] {
+            let mut names = Names::new(rt.alloc(), 1000);
+            let line = pieces(rt.alloc(), &mut names, text)?;
+            assert!(rt; line.len() < 1000);
+            assert_eq!(rt;
+                condition(rt.alloc(), &names, line.as_slice(), end),
+                want,
+                "at {text}"
+            );
+        }
+        Ok(())
+    }
+
+    #[test]
+    fn refuses_an_empty_line_at_its_end(rt: HostRuntime) -> Result<(), Fail> {
+        let names = Names::new(rt.alloc(), 0);
+        let end = Place {
+            file: 0,
+            line: 1,
+            col: 3,
+        };
+        assert_eq!(rt; condition(rt.alloc(), &names, &[], end), refused(3));
+        Ok(())
+    }
+
+    #[test]
+    fn refuses_the_level_after_the_last(rt: HostRuntime) -> Result<(), Fail> {
+        let mut text = String::new(rt.alloc());
+        for _level in 0..200 {
+            text.push_str("( ")?;
+        }
+        let end = Place {
+            file: 0,
+            line: 1,
+            col: 0,
+        };
+        for (tail, col) in [("1", 200), ("( 1", 200), ("~ 1", 200), ("1 ? 2 : 3", 201)] {
+            let mut names = Names::new(rt.alloc(), 1000);
+            let whole = format!(in rt.alloc(); "{text}{tail}")?;
+            let line = pieces(rt.alloc(), &mut names, whole.as_str())?;
+            assert!(rt; line.len() < 1000);
+            assert_eq!(rt;
+                condition(rt.alloc(), &names, line.as_slice(), end),
+                refused(col),
+                "at {tail}"
+            );
+        }
+        Ok(())
+    }
+}
