@@ -1,0 +1,14 @@
+use Rattle.std.proofs.Common.{◌≡◌, length}
+use Rattle.sb_base.specs.Names.{IsDistinct}
+use Rattle.sb_prep.proofs.Preparations.{Goes}
+use Rattle.sb_prep.proofs.defined.prepared.Given as goal
+
+abbrev pub invariant-pieces : goal.invariant-pieces
+invariant-pieces l = record {
+  goes : Goes l.initial.names.limit l.rules l.initial.names.texts l.line l.out.items l.names.texts l.rest;
+  limit : l.names.limit ≡ l.initial.names.limit;
+  distinct : IsDistinct l.initial.names.texts → IsDistinct l.names.texts;
+}
+
+abbrev pub decreases-pieces : goal.decreases-pieces
+decreases-pieces l = length l.rest
