@@ -1,4 +1,4 @@
-//! The program: `prefast check FILE` checks the functions of a file, and ends with the number of the status.
+//! The program: `prefast check FILE...` checks the functions of some files, and ends with the number of the status.
 #![tactic(auto)]
 
 ghost use Rattle.std.specs.Prelude.{◌≡◌};

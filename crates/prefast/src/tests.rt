@@ -9,7 +9,7 @@ const BOUNDED: &str =
     "void f(_Out_writes_(n) int *a, unsigned int n, unsigned int i)\n{ if (i < n) a[i] = 1; }\n";
 
 /// The text of `t.c` with its status and what is written of it by `check t.c`.
-const CASES: [(&str, Status, &str); 10] = [
+const CASES: [(&str, Status, &str); 14] = [
     (BOUNDED, Status::Clean, "0 warnings in 1 functions\n"),
     (
         "void f(_Out_writes_(n) int *a, unsigned int n, unsigned int i)\n{ if (i <= n) a[i] = 1; }\n",
@@ -45,32 +45,165 @@ const CASES: [(&str, Status, &str); 10] = [
     (
         "void f(int n) {",
         Status::Refused,
-        "t.c:1:16: refused 33: outside the profile: not built yet\n",
+        "t.c:1:15: refused 33: outside the profile: not built yet\n",
+    ),
+    (
+        "void f(",
+        Status::Refused,
+        "t.c:1:7: refused 33: outside the profile: not built yet\n",
     ),
     (
         "void f(int n) { if (n < 2147483648) { } }",
         Status::Refused,
         "t.c:1:25: refused 33: outside the profile: not built yet\n",
     ),
+    (
+        "#include \"x.h\"\n",
+        Status::Refused,
+        "t.c:1:10: refused 21: no such file\n",
+    ),
+    (
+        "int f /*",
+        Status::Refused,
+        "t.c:1:7: refused 1: comment not closed\n",
+    ),
+    (
+        "void f(_Out_writes_(n) int *a, int n) <% if (0 < n) a<:0:> = 1; %>",
+        Status::Clean,
+        "0 warnings in 1 functions\n",
+    ),
 ];
 
-/// What `check t.c` answers and writes where `t.c` is the text, and the listed calls of the library and the sink fail.
+/// The text of `t.c`, and how it is refused.
+const REFUSED: [(&str, &str); 17] = [
+    ("'a", "t.c:1:1: refused 2: literal not closed\n"),
+    ("a @", "t.c:1:3: refused 3: bad byte\n"),
+    ("08", "t.c:1:1: refused 4: bad number\n"),
+    ("#define 1\n", "t.c:1:9: refused 11: bad definition\n"),
+    ("#define\n", "t.c:1:2: refused 11: bad definition\n"),
+    (
+        "#define A 1\n#define A 2\n",
+        "t.c:2:9: refused 12: macro redefined\n",
+    ),
+    (
+        "#define F(x) x\nF(1,2)\n",
+        "t.c:2:1: refused 13: argument count\n",
+    ),
+    (
+        "#define F(x) x\nF(1\n",
+        "t.c:2:3: refused 14: macro call not closed\n",
+    ),
+    (
+        "#define A #\n",
+        "t.c:1:11: refused 15: outside the preprocessor profile\n",
+    ),
+    (
+        "#line 1\n",
+        "t.c:1:2: refused 15: outside the preprocessor profile\n",
+    ),
+    (
+        "#include \"t.c\"\n",
+        "t.c:1:10: refused 23: includes too deep\n",
+    ),
+    ("#foo\n", "t.c:1:2: refused 24: bad directive\n"),
+    ("#include <>\n", "t.c:1:10: refused 24: bad directive\n"),
+    (
+        "#if 1\n",
+        "t.c:1:5: refused 25: conditionals not balanced\n",
+    ),
+    (
+        "#if 0\n#else\n#else\n#endif\n",
+        "t.c:3:2: refused 25: conditionals not balanced\n",
+    ),
+    ("#if 1 /\n#endif\n", "t.c:1:7: refused 26: bad condition\n"),
+    ("#error no\n", "t.c:1:2: refused 27: error directive\n"),
+];
+
+/// A text and a header that it includes, cut after each line, with what `check` writes of them.
+const CUT: [(&str, &str, &str); 4] = [
+    ("", "#pragma once\n", "0 warnings in 0 functions\n"),
+    (
+        "#include \"h.h\"\n#if ONE\n",
+        "#pragma once\n#define ONE 1\n",
+        "t.c:2:5: refused 25: conditionals not balanced\n",
+    ),
+    (
+        "#include \"h.h\"\n#include \"h.h\"\n#if ONE\nHEAD\n#endif\n",
+        "#pragma once\n#define ONE 1\n#define HEAD void f(int n)\n",
+        "t.c:4:1: refused 33: outside the profile: not built yet\n",
+    ),
+    (
+        "#include \"h.h\"\n#include \"h.h\"\n#if ONE\nHEAD\n#endif\n{ }\n",
+        "#pragma once\n#define ONE 1\n#define HEAD void f(int n)\n",
+        "0 warnings in 1 functions\n",
+    ),
+];
+
+const OTHER: &str = "void f(_Out_writes_(n) int *a, int n) { a[0] = 1; }\n";
+
+/// Sets of files, with the status and what is written of each by `check` with the words.
+const SETS: [(&[(&str, &str)], &[&str], Status, &str); 6] = [
+    (
+        &[("a.c", BOUNDED), ("b.c", BOUNDED)],
+        &["a.c", "b.c"],
+        Status::Clean,
+        "0 warnings in 2 functions\n",
+    ),
+    (
+        &[("a.c", BOUNDED), ("b.c", OTHER)],
+        &["a.c", "b.c"],
+        Status::Warned,
+        "b.c:1:42: warning 104: past the end\n  refuted by a.extent.1=0 a.written.2=0 n.3=-2147483648\n1 warnings in 2 functions\n",
+    ),
+    (
+        &[("a.c", "void f("), ("b.c", "int f /*")],
+        &["a.c", "b.c"],
+        Status::Refused,
+        "b.c:1:7: refused 1: comment not closed\n",
+    ),
+    (
+        &[("a.c", "#include \"x.h\"\n"), ("x.h", "void f(")],
+        &["a.c"],
+        Status::Refused,
+        "x.h:1:7: refused 33: outside the profile: not built yet\n",
+    ),
+    (
+        &[("a.c", BOUNDED)],
+        &["a.c", "b.c"],
+        Status::Refused,
+        "b.c:0:0: refused 21: no such file\n",
+    ),
+    (
+        &[("a.c", BOUNDED)],
+        &[],
+        Status::Usage,
+        "usage: prefast COMMAND ARGUMENT...\n",
+    ),
+];
+
+/// What `check` with these words answers and writes where these are the files, and the listed calls of the library and the
+/// sink fail.
 fn checked(
     alloc: Global,
-    text: &str,
+    files: &[(&str, &str)],
+    words: &[&str],
     fetches: Vec<u64>,
     puts: Vec<u64>,
 ) -> Result<(Status, MemSink), AllocError> {
-    let mut files = Vec::new(alloc);
-    let name = Vec::from_slice(alloc, b"t.c")?;
-    let bytes = Vec::from_slice(alloc, text.as_bytes())?;
-    files.push((name, bytes))?;
-    let mut words = Vec::new(alloc);
-    words.push(String::from_str(alloc, "check")?)?;
-    words.push(String::from_str(alloc, "t.c")?)?;
-    let mut lib = MemLibrary::new(files, fetches);
+    let mut held = Vec::new(alloc);
+    for (name, text) in files {
+        let name = Vec::from_slice(alloc, name.as_bytes())?;
+        let bytes = Vec::from_slice(alloc, text.as_bytes())?;
+        held.push((name, bytes))?;
+    }
+    let mut line = Vec::new(alloc);
+    line.push(String::from_str(alloc, "check")?)?;
+    for word in words {
+        line.push(String::from_str(alloc, word)?)?;
+    }
+    let mut lib = MemLibrary::new(held, fetches);
     let mut out = MemSink::new(Vec::new(alloc), puts);
-    let status = prefast(alloc, words.as_slice(), &mut lib, &mut out);
+    let status = prefast(alloc, line.as_slice(), &mut lib, &mut out);
     Ok((status, out))
 }
 
@@ -78,7 +211,8 @@ fn checked(
 fn texts_and_what_is_written(rt: HostRuntime) -> Result<(), Fail> {
     for (text, status, written) in CASES {
         let alloc = rt.alloc();
-        let (answer, out) = checked(alloc, text, Vec::new(alloc), Vec::new(alloc))?;
+        let files = [("t.c", text)];
+        let (answer, out) = checked(alloc, &files, &["t.c"], Vec::new(alloc), Vec::new(alloc))?;
         assert_eq!(rt; answer, status, "{text}");
         assert_eq!(rt; out.bytes(), written.as_bytes(), "{text}");
     }
@@ -86,14 +220,54 @@ fn texts_and_what_is_written(rt: HostRuntime) -> Result<(), Fail> {
 }
 
 #[test]
+fn texts_that_are_refused(rt: HostRuntime) -> Result<(), Fail> {
+    for (text, line) in REFUSED {
+        let alloc = rt.alloc();
+        let files = [("t.c", text)];
+        let (answer, out) = checked(alloc, &files, &["t.c"], Vec::new(alloc), Vec::new(alloc))?;
+        assert_eq!(rt; answer, Status::Refused, "{text}");
+        assert_eq!(rt; out.bytes(), line.as_bytes(), "{text}");
+    }
+    Ok(())
+}
+
+#[test]
+fn a_text_and_its_header_cut_after_each_line(rt: HostRuntime) -> Result<(), Fail> {
+    for (text, header, written) in CUT {
+        let alloc = rt.alloc();
+        let files = [("t.c", text), ("h.h", header)];
+        let (_answer, out) = checked(alloc, &files, &["t.c"], Vec::new(alloc), Vec::new(alloc))?;
+        assert_eq!(rt; out.bytes(), written.as_bytes(), "{text}");
+    }
+    Ok(())
+}
+
+#[test]
+fn sets_and_what_is_written(rt: HostRuntime) -> Result<(), Fail> {
+    for (files, words, status, written) in SETS {
+        let alloc = rt.alloc();
+        let (answer, out) = checked(alloc, files, words, Vec::new(alloc), Vec::new(alloc))?;
+        assert_eq!(rt; answer, status, "{written}");
+        assert_eq!(rt; out.bytes(), written.as_bytes(), "{written}");
+    }
+    Ok(())
+}
+
+#[test]
 fn a_library_and_a_sink_that_fail(rt: HostRuntime) -> Result<(), Fail> {
     let alloc = rt.alloc();
+    let files = [("t.c", BOUNDED)];
     let first = Vec::from_slice(alloc, &[0u64])?;
-    let (answer, out) = checked(alloc, BOUNDED, first, Vec::new(alloc))?;
+    let (answer, out) = checked(alloc, &files, &["t.c"], first, Vec::new(alloc))?;
+    assert_eq!(rt; answer, Status::ReadFault);
+    assert_eq!(rt; out.bytes().len(), 0);
+    let files_of_two = [("t.c", "#include \"h.h\"\n"), ("h.h", BOUNDED)];
+    let second = Vec::from_slice(alloc, &[1u64])?;
+    let (answer, out) = checked(alloc, &files_of_two, &["t.c"], second, Vec::new(alloc))?;
     assert_eq!(rt; answer, Status::ReadFault);
     assert_eq!(rt; out.bytes().len(), 0);
     let first = Vec::from_slice(alloc, &[0u64])?;
-    let (answer, out) = checked(alloc, BOUNDED, Vec::new(alloc), first)?;
+    let (answer, out) = checked(alloc, &files, &["t.c"], Vec::new(alloc), first)?;
     assert_eq!(rt; answer, Status::WriteFault);
     assert_eq!(rt; out.bytes().len(), 0);
     Ok(())

@@ -1,5 +1,5 @@
 -- one island that is taken into a prefix
-use Rattle.std.proofs.Common.{◌≡◌, ℕ, zero, suc, Option, Some, position, slice_get, remove, ap, sym, ◌∙◌, refl, arith}
+use Rattle.std.proofs.Common.{◌≡◌, ℕ, suc, Some, position, slice_get, remove, ap, sym, ◌∙◌}
 use Rattle.sb_top.specs.declared.picture.Island.{Island}
 use Rattle.sb_top.specs.declared.picture.Region.{Region}
 use Rattle.sb_top.specs.Stores.{is_next, taken_at, taken_in, absorbed}

@@ -1,5 +1,5 @@
 -- texts that are appended one after another
-use Rattle.std.proofs.Common.{◌≡◌, ◌++◌, ◌∷◌, [], ℕ, List, Result, Ok, Err, OnOk, refl, append_assoc, cond, is_ok, codes, length, ap, ◌∙◌, drop, ◌≤◌, append-nil}
+use Rattle.std.proofs.Common.{◌≡◌, ◌++◌, ◌∷◌, [], ℕ, List, Result, Ok, Err, OnOk, append_assoc, cond, is_ok, codes, length, ap, ◌∙◌, drop, ◌≤◌, append-nil}
 use Rattle.std.specs.Fmt.{decimal}
 use Rattle.std.proofs.Math.ListN.{drop_of_length-le}
 

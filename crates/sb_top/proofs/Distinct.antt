@@ -1,5 +1,5 @@
 -- Names that differ, and the positions of the parameters that have them.
-use Rattle.std.proofs.Common.{◌≡◌, ℕ, zero, suc, Bool, true, false, ◌||◌, List, [], ◌∷◌, ◌++◌, map, Option, Some, None, nat_eq, slice_get, if◌then◌else◌, refl, sym, ap, ◌∙◌, eq-eqb, eqb-true, subst, true≢false}
+use Rattle.std.proofs.Common.{◌≡◌, ℕ, zero, suc, Bool, true, false, ◌||◌, List, [], ◌∷◌, Option, Some, None, slice_get, if◌then◌else◌, refl, sym, ap, ◌∙◌, eq-eqb, eqb-true, true≢false}
 use Rattle.sb_base.specs.declared.interning.Name.{Name}
 use Rattle.sb_top.specs.declared.syntax.Param.{Param}
 use Rattle.sb_top.specs.declared.syntax.ParamKind.{ParamKind}

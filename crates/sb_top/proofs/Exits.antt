@@ -1,12 +1,12 @@
 -- a fault inside a turn of a loop that asks is the fault of the whole
-use Rattle.std.proofs.Common.{◌≡◌, ℕ, ◌+◌, ◌<◌, List, [], ◌∷◌, ◌++◌, length, drop, get_or, Option, Some, None, Result, Ok, Err, refl, sym, ap, ◌∙◌, subst}
+use Rattle.std.proofs.Common.{◌≡◌, ℕ, ◌+◌, ◌<◌, List, [], ◌∷◌, ◌++◌, length, drop, get_or, Option, Result, Err, sym, ap, ◌∙◌, subst}
 use Rattle.sb_base.specs.declared.refusals.Place.{Place}
 use Rattle.sb_term.specs.declared.query.Query.{Query}
 use Rattle.sb_term.specs.declared.answer.Answer.{Answer}
 use Rattle.sb_term.specs.declared.fault.DecideFault.{DecideFault}
 use Rattle.sb_term.specs.declared.fault.DecideFault.TheVariants.{BadLine, EndOfCert, Memory}
 use Rattle.sb_term.specs.Linear.{Linear}
-use Rattle.sb_term.specs.Asks.{Asks, Done, Ask, after_it, each_onto, Ended, ended, stopped, run, EndsAs}
+use Rattle.sb_term.specs.Asks.{Asks, after_it, each_onto, Ended, stopped, run, EndsAs}
 use Rattle.sb_term.specs.AskLaws.{run_on, run-after_it}
 use Rattle.sb_top.specs.declared.picture.Picture.{Picture}
 use Rattle.sb_top.specs.declared.syntax.Simple.{Simple}
@@ -14,7 +14,7 @@ use Rattle.sb_top.specs.declared.syntax.Comparison.{Comparison}
 use Rattle.sb_top.specs.declared.warning.Warning.{Warning}
 use Rattle.sb_top.specs.Asking.{assume}
 use Rattle.sb_top.specs.Splits.{Sides, split, split_all, joined, sides}
-use Rattle.sb_top.specs.Stores.{Judged, store_rule, judged}
+use Rattle.sb_top.specs.Stores.{Judged, store_rule}
 use Rattle.sb_top.specs.Walks.{Walked, walked, store_all}
 use Rattle.sb_top.specs.Ends.{EndsWith}
 use Rattle.sb_top.proofs.Turns.{left_at}

@@ -1,10 +1,10 @@
 -- The readers of functions and files keep the laws: they read by the grammar's relation.
-use Rattle.std.proofs.Common.{◌≡◌, ◌≤◌, ◌+◌, ℕ, Bool, true, false, not, ◌||◌, List, [], ◌∷◌, ◌++◌, map, length, Option, Some, None, if◌then◌else◌, refl, sym, ap, ◌∙◌, subst, subst₂, append_assoc, append-nil}
+use Rattle.std.proofs.Common.{◌≡◌, ℕ, Bool, true, false, not, ◌||◌, List, [], ◌∷◌, ◌++◌, Some, None, if◌then◌else◌, refl, sym, ap, ◌∙◌, subst, subst₂, append_assoc, append-nil}
 use Rattle.sb_base.specs.declared.interning.Name.{Name}
 use Rattle.sb_base.specs.declared.refusals.Place.{Place}
-use Rattle.sb_parse.specs.Parser.{Outcome, done, stop, at_next, never, ◌>>=◌, pure, looped}
+use Rattle.sb_parse.specs.Parser.{done, stop, never, ◌>>=◌, pure}
 use Rattle.sb_parse.specs.Lawful.{Lawful, Joined, Begun, IsEmpty, Mapped, Turns, over, turn}
-use Rattle.sb_parse.specs.Read.{CanBegin, IsRefused}
+use Rattle.sb_parse.specs.Read.{IsRefused}
 use Rattle.sb_parse.proofs.Joining.{never_next, in_order, via, nothing, map_of}
 use Rattle.sb_parse.proofs.Heads.{begun, headed}
 use Rattle.sb_parse.proofs.Looping.{looping}
@@ -14,9 +14,9 @@ use Rattle.sb_top.specs.declared.lexeme.Lexeme.TheVariants as sign
 use Rattle.sb_top.specs.declared.lexeme.Piece.{Piece}
 use Rattle.sb_top.specs.declared.syntax.Param.{Param}
 use Rattle.sb_top.specs.Syntax.{Plain, FunctionTree}
-use Rattle.sb_top.specs.Grammar.{◌at◌, is_among, AreDistinct, names_of, AreParams, AreStatements, depth_of, IsFunction, is_function, AreFunctions, ended, after, IsFile}
-use Rattle.sb_top.specs.Marks.{Reader, misplaced, is_mark, mark, name_of}
-use Rattle.sb_top.specs.Params.{name_if, params}
+use Rattle.sb_top.specs.Grammar.{◌at◌, is_among, AreDistinct, IsFunction, is_function, AreFunctions, ended, after, IsFile}
+use Rattle.sb_top.specs.Marks.{misplaced, is_mark, mark, name_of}
+use Rattle.sb_top.specs.Params.{name_if}
 use Rattle.sb_top.specs.Statements.{block_rest, statement}
 use Rattle.sb_top.specs.Files.{function_names, with_place, new_name, function, function_more, functions, file}
 use Rattle.sb_top.proofs.Pieces.{nowhere, is_itself, mark_is, Marked, marked, marked_heads}

@@ -1,12 +1,12 @@
 -- What the reader of a file computes, at a turn of its loop.
-use Rattle.std.proofs.Common.{◌≡◌, ◌-◌, ◌+◌, ◌<◌, ◌≤◌, ℕ, Bool, true, false, List, [], length, ap, ◌∙◌}
-use Rattle.sb_parse.specs.Parser.{Outcome, done, stop, at_next, and_then, loop}
+use Rattle.std.proofs.Common.{◌≡◌, ◌-◌, ◌+◌, ◌<◌, ◌≤◌, ℕ, true, false, List, [], length, ap, ◌∙◌}
+use Rattle.sb_parse.specs.Parser.{done, at_next, and_then, loop}
 use Rattle.sb_top.specs.declared.lexeme.Lexeme.TheVariants as sign
 use Rattle.sb_top.specs.declared.lexeme.Piece.{Piece}
 use Rattle.sb_top.specs.declared.reading.ReadFault.{ReadFault}
 use Rattle.sb_top.specs.declared.reading.ReadFault.TheVariants.{Refused, Memory}
 use Rattle.sb_top.specs.Syntax.{FunctionTree}
-use Rattle.sb_top.specs.Marks.{misplaced, is_mark}
+use Rattle.sb_top.specs.Marks.{is_mark}
 use Rattle.sb_top.specs.Reads.{IsFault}
 use Rattle.sb_top.specs.Files.{function_more, functions}
 use Rattle.sb_top.proofs.LoopSteps.{loop_off, loop_on, loop_over}

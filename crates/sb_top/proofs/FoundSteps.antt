@@ -1,5 +1,5 @@
 -- The search of a parameter by its name, from a position on.
-use Rattle.std.proofs.Common.{◌≡◌, ◌+◌, ◌<◌, ◌≤◌, ℕ, suc, length, slice_index_or, drop-cons, drop_of_length-le, Bool, true, false, List, [], ◌∷◌, drop, Option, Some, None, if◌then◌else◌, refl, sym, ap, ◌∙◌, arith}
+use Rattle.std.proofs.Common.{◌≡◌, ◌+◌, ◌<◌, ◌≤◌, ℕ, suc, length, slice_index_or, drop-cons, drop_of_length-le, true, false, List, [], ◌∷◌, drop, Option, Some, None, if◌then◌else◌, refl, sym, ap, ◌∙◌, arith}
 use Rattle.sb_base.specs.declared.interning.Name.{Name}
 use Rattle.sb_top.specs.declared.syntax.Param.{Param}
 use Rattle.sb_top.specs.declared.syntax.ParamKind.{ParamKind}

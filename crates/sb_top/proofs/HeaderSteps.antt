@@ -1,5 +1,5 @@
 -- What the steps of the reader of parameters in code compute.
-use Rattle.std.proofs.Common.{◌≡◌, ◌<◌, ◌≤◌, ◌+◌, ℕ, zero, suc, Bool, true, false, not, ◌||◌, ◌&&◌, List, [], ◌∷◌, ◌++◌, length, take, drop, if◌then◌else◌, refl, sym, ap, ◌∙◌, subst, arith}
+use Rattle.std.proofs.Common.{◌≡◌, ◌<◌, ◌≤◌, ℕ, suc, Bool, true, false, not, ◌||◌, ◌&&◌, List, [], ◌∷◌, ◌++◌, length, take, drop, if◌then◌else◌, refl, ap, ◌∙◌, subst, arith}
 use Rattle.sb_base.specs.declared.interning.Name.{Name}
 use Rattle.sb_top.specs.Grammar.{same_name, is_among}
 use Rattle.sb_parse.specs.Parser.{taken}

@@ -1,8 +1,8 @@
 -- the report of a file, as the elimination answers
-use Rattle.std.proofs.Common.{◌≡◌, ℕ, ◌≤◌, List, ◌++◌, length, drop, Result, Ok, Err, IfOk, Option, None, refl, sym, ◌∙◌}
+use Rattle.std.proofs.Common.{◌≡◌, None}
 use Rattle.sb_term.specs.declared.query.Query.{Query}
 use Rattle.sb_term.specs.declared.answer.Answer.{Answer}
-use Rattle.sb_term.specs.Asks.{Asks, Ended, ended, run}
+use Rattle.sb_term.specs.Asks.{Asks, ended, run}
 use Rattle.sb_top.specs.Walks.{answered}
 use Rattle.sb_top.proofs.Soundness.Reported.{run_of_plain}
 

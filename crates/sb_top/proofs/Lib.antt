@@ -1,5 +1,3 @@
-pub mod Lexing
-pub mod Only
 mod Pieces
 mod Distinct
 mod Values
@@ -14,6 +12,8 @@ pub mod Steps
 pub mod WordSteps
 pub mod FoundSteps
 pub mod Defined
+pub mod UnitSteps
+pub mod FileNames
 pub mod Appending
 pub mod LoopSteps
 pub mod StatementSteps
@@ -30,3 +30,4 @@ pub mod Targets
 pub mod Absorbing
 pub mod Placing
 pub mod Soundness
+pub mod OneOutcome

@@ -1,6 +1,6 @@
 -- A loop of a reader, a turn at a time.
-use Rattle.std.proofs.Common.{◌≡◌, ◌+◌, ◌-◌, ◌<◌, ◌≤◌, ℕ, zero, suc, Bool, true, false, List, length, if◌then◌else◌, refl, sym, ap, ◌∙◌, arith}
-use Rattle.sb_parse.specs.Parser.{Parser, Outcome, done, at_next, and_then, loop}
+use Rattle.std.proofs.Common.{◌≡◌, ◌+◌, ◌-◌, ◌<◌, ◌≤◌, ℕ, zero, suc, Bool, true, false, List, if◌then◌else◌, refl, ap, ◌∙◌, arith}
+use Rattle.sb_parse.specs.Parser.{Parser, done, at_next, and_then, loop}
 
 pub loop_off : {T A : Type 0} (goes : T → Bool) (op : A → Parser T A) (n : ℕ) (a : A) (ts : List T) → at_next goes ts ≡ false → loop goes op n a ts ≡ done a ts
 unfolding loop

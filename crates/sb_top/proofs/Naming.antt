@@ -1,5 +1,5 @@
 -- Lists of names: what is among them, which differ, and a name that is new.
-use Rattle.std.proofs.Common.{◌≡◌, ◌⊎◌, ◌≤◌, ◌<◌, ◌+◌, ℕ, zero, suc, max, Bool, true, false, not, ◌||◌, ◌&&◌, List, [], ◌∷◌, ◌++◌, map, length, Option, Some, None, nat_eq, nat_le, nat_lt, slice_get, if◌then◌else◌, refl, sym, ap, ◌∙◌, inl, inr, eq-eqb, eqb-true, ne_eqb, subst, true≢false, arith, append_assoc, length-append}
+use Rattle.std.proofs.Common.{◌≡◌, ◌⊎◌, ◌≤◌, ℕ, suc, max, Bool, true, false, not, ◌||◌, ◌&&◌, List, [], ◌∷◌, ◌++◌, length, nat_eq, if◌then◌else◌, refl, sym, ap, ◌∙◌, inl, inr, ne_eqb, subst, true≢false, arith}
 use Rattle.sb_base.specs.declared.interning.Name.{Name}
 use Rattle.sb_top.specs.Grammar.{same_name, is_among, AreDistinct}
 use Rattle.sb_top.specs.Params.{without}

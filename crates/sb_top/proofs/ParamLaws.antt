@@ -1,9 +1,9 @@
 -- The readers of parameters keep the laws, as long as the places that are left can give all sizes that are pending.
-use Rattle.std.proofs.Common.{◌≡◌, ◌⊎◌, ◌≤◌, ◌<◌, ◌+◌, ◌-◌, ℕ, zero, suc, max, Bool, true, false, not, ◌||◌, ◌&&◌, List, [], ◌∷◌, ◌++◌, map, length, Option, Some, None, nat_eq, nat_le, nat_lt, if◌then◌else◌, refl, sym, ap, ◌∙◌, inl, inr, subst, arith, append_assoc, length-append, le-leb, leb-true, lt-ltb, ltb-true, ltb-false, le-ltb}
+use Rattle.std.proofs.Common.{◌≡◌, ◌⊎◌, ◌≤◌, ◌<◌, ℕ, zero, suc, Bool, true, false, not, ◌||◌, ◌&&◌, List, [], ◌∷◌, ◌++◌, length, Some, None, nat_le, nat_lt, if◌then◌else◌, refl, sym, ap, ◌∙◌, inl, inr, subst, arith, le-leb, leb-true, lt-ltb, ltb-true, ltb-false}
 use Rattle.sb_base.specs.declared.interning.Name.{Name}
-use Rattle.sb_parse.specs.Parser.{Parser, at_next, never, ◌>>=◌, pure, refuse, taken, choose, only, guard}
+use Rattle.sb_parse.specs.Parser.{never, ◌>>=◌, pure}
 use Rattle.sb_parse.specs.Lawful.{Lawful, OnHead, Joined, IsValue, Begun, IsEmpty, Mapped, Unbarred, Either}
-use Rattle.sb_parse.proofs.Joining.{never_next, in_order, via, nothing, map_of, one_value}
+use Rattle.sb_parse.proofs.Joining.{never_next, in_order, nothing, map_of, one_value}
 use Rattle.sb_parse.proofs.Heads.{begun, headed, guarded, either_of, only_of}
 use Rattle.sb_top.specs.declared.lexeme.Lexeme.{Lexeme}
 use Rattle.sb_top.specs.declared.lexeme.Lexeme.TheVariants as sign
@@ -12,10 +12,10 @@ use Rattle.sb_top.specs.declared.written.Written.{Written}
 use Rattle.sb_top.specs.declared.written.WrittenKind.{WrittenKind}
 use Rattle.sb_top.specs.declared.written.WrittenKind.TheVariants.{Int, Unsigned, OutWrites}
 use Rattle.sb_top.specs.Grammar.{◌at◌, same_name, is_among, AreDistinct}
-use Rattle.sb_top.specs.Marks.{Reader, misplaced, is_mark, mark, name_of}
-use Rattle.sb_top.specs.Params.{Seen, written_names, counts, has_number, without, is_known, pending_with, number_name, size_name, pointer_name, name_if, named, with_number, with_pointer, number_param, pointer_param, begins_param, param, is_zero, goes_on, closing, params_after}
+use Rattle.sb_top.specs.Marks.{misplaced, is_mark, mark, name_of}
+use Rattle.sb_top.specs.Params.{Seen, written_names, counts, has_number, without, is_known, pending_with, number_name, size_name, pointer_name, name_if, named, with_number, with_pointer, number_param, pointer_param, param, is_zero, closing, params_after}
 use Rattle.sb_top.proofs.Distinct.{same_name_is, same_name_refl}
-use Rattle.sb_top.proofs.Pieces.{nowhere, is_itself, mark_is, mark_elsewhere, Marked, marked, marked_heads}
+use Rattle.sb_top.proofs.Pieces.{nowhere, mark_elsewhere, Marked, marked, marked_heads}
 use Rattle.sb_top.proofs.Naming
 
 -- nothing that these readers read goes on by itself

@@ -1,6 +1,6 @@
 -- What the reader of a parameter computes, by the next word or mark.
-use Rattle.std.proofs.Common.{◌≡◌, ◌<◌, ◌≤◌, ◌-◌, not, arith, ℕ, zero, suc, Bool, true, false, ◌||◌, List, [], ◌∷◌, length, nat_lt, if◌then◌else◌, refl, sym, ap, ◌∙◌, lt-ltb, le-ltb}
-use Rattle.sb_parse.specs.Parser.{Parser, stop, at_next, ◌>>=◌, pure, choose, guard, refuse}
+use Rattle.std.proofs.Common.{◌≡◌, ◌<◌, ◌≤◌, ◌-◌, not, arith, ℕ, zero, suc, true, false, ◌||◌, List, [], ◌∷◌, length, nat_lt, refl, ap, ◌∙◌, lt-ltb, le-ltb}
+use Rattle.sb_parse.specs.Parser.{stop, at_next, ◌>>=◌, pure, choose, guard, refuse}
 use Rattle.sb_parse.proofs.Heads.{passes_first, passes_second, chosen}
 use Rattle.sb_top.specs.declared.lexeme.Lexeme.TheVariants as sign
 use Rattle.sb_top.specs.declared.lexeme.Piece.{Piece}

@@ -1,21 +1,16 @@
 -- The readers of parameters read by the grammar's relation: the conditions that they check name by name are those on the whole list.
-use Rattle.std.proofs.Common.{◌≡◌, ◌⊎◌, ◌≤◌, ◌<◌, ◌+◌, ◌-◌, ℕ, zero, suc, max, Bool, true, false, not, ◌||◌, ◌&&◌, List, [], ◌∷◌, ◌++◌, map, length, Option, Some, None, nat_eq, nat_le, nat_lt, slice_get, if◌then◌else◌, refl, sym, ap, ◌∙◌, inl, inr, subst, subst₂, arith, append_assoc, append-nil, length-append, le-ltb, ltb-false}
+use Rattle.std.proofs.Common.{◌≡◌, ◌≤◌, ℕ, zero, suc, Bool, true, false, not, List, [], ◌∷◌, ◌++◌, length, refl, sym, ap, ◌∙◌, inl, inr, subst, arith, append_assoc, append-nil}
 use Rattle.sb_base.specs.declared.interning.Name.{Name}
 use Rattle.sb_base.specs.declared.refusals.Place.{Place}
-use Rattle.sb_parse.specs.Parser.{never, ◌>>=◌, pure}
-use Rattle.sb_parse.specs.Lawful.{Lawful, Joined, IsValue, Begun, IsEmpty, Mapped, Unbarred, Either}
-use Rattle.sb_parse.proofs.Joining.{never_next, in_order, via, map_of}
+use Rattle.sb_parse.specs.Lawful.{Begun}
 use Rattle.sb_top.specs.declared.lexeme.Lexeme.TheVariants as sign
 use Rattle.sb_top.specs.declared.lexeme.Piece.{Piece}
-use Rattle.sb_top.specs.declared.syntax.Param.{Param}
-use Rattle.sb_top.specs.declared.syntax.ParamKind.{ParamKind}
-use Rattle.sb_top.specs.declared.syntax.ParamKind.TheVariants as kind
 use Rattle.sb_top.specs.declared.written.Written.{Written}
 use Rattle.sb_top.specs.declared.written.WrittenKind.{WrittenKind}
 use Rattle.sb_top.specs.declared.written.WrittenKind.TheVariants.{Int, Unsigned, OutWrites}
-use Rattle.sb_top.specs.Grammar.{◌at◌, same_name, is_among, AreDistinct, names_of, is_number, IsParam, is_int, is_unsigned, is_out_writes, AreParams, one, more}
-use Rattle.sb_top.specs.Params.{Seen, written_names, counts, has_number, without, is_known, pending_with, number_name, size_name, pointer_name, named, with_number, with_pointer, is_zero, place_of, placed_kind, placed, settled, params}
-use Rattle.sb_top.proofs.Distinct.{same_name_is, same_name_refl, is_among_at}
+use Rattle.sb_top.specs.Grammar.{◌at◌, same_name, is_among, AreDistinct}
+use Rattle.sb_top.specs.Params.{Seen, written_names, counts, has_number, without, is_known, pending_with, number_name, size_name, pointer_name, with_number, with_pointer, is_zero}
+use Rattle.sb_top.proofs.Distinct.{same_name_is}
 use Rattle.sb_top.proofs.Pieces.{Marked}
 use Rattle.sb_top.proofs.Naming
 use Rattle.sb_top.proofs.ParamLaws

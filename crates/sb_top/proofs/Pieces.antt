@@ -1,8 +1,7 @@
 -- Single words and marks: what the tests of readers say of a piece, and the laws of the readers that take one.
-use Rattle.std.proofs.Common.{◌≡◌, ℕ, Bool, true, false, List, [], ◌∷◌, ◌++◌, Option, Some, None, nat_eq, refl, sym, ap, ◌∙◌, eq-eqb, eqb-true}
-use Rattle.sb_base.specs.declared.interning.Name.{Name}
+use Rattle.std.proofs.Common.{◌≡◌, Bool, true, false, List, ◌∷◌, nat_eq, refl, sym, ap, ◌∙◌, eq-eqb, eqb-true}
 use Rattle.sb_base.specs.declared.refusals.Place.{Place}
-use Rattle.sb_parse.specs.Parser.{Parser, at_next, never, expect}
+use Rattle.sb_parse.specs.Parser.{at_next, expect}
 use Rattle.sb_parse.specs.Lawful.{Lawful, Opened}
 use Rattle.sb_parse.proofs.Joining.{via}
 use Rattle.sb_parse.proofs.Heads.{opened}
@@ -10,7 +9,7 @@ use Rattle.sb_top.specs.declared.lexeme.Lexeme.{Lexeme}
 use Rattle.sb_top.specs.declared.lexeme.Lexeme.TheVariants.{Void, Int, Unsigned, If, OutWrites, Named, Number, OpenParenthesis, CloseParenthesis, OpenBrace, CloseBrace, OpenBracket, CloseBracket, Comma, Semicolon, Assign, Star, Less, AtMost, Greater, AtLeast, Equal, NotEqual, Other}
 use Rattle.sb_top.specs.declared.lexeme.Piece.{Piece}
 use Rattle.sb_top.specs.Grammar.{◌at◌}
-use Rattle.sb_top.specs.Marks.{Reader, misplaced, order_of, is_bare, is_mark, mark, name_of}
+use Rattle.sb_top.specs.Marks.{Reader, misplaced, order_of, is_bare, is_mark, mark}
 
 same_order : (a b : Lexeme) → is_bare a ≡ true → nat_eq (order_of a) (order_of b) ≡ true → a ≡ b
 same_order Void Void k h = refl

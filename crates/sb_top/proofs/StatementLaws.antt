@@ -1,9 +1,9 @@
 -- The readers of statements keep the laws: they read by the grammar's relation, cut to a depth.
-use Rattle.std.proofs.Common.{◌≡◌, ◌⊎◌, ◌≤◌, ◌<◌, ◌+◌, ℕ, zero, suc, max, Bool, true, false, ◌||◌, List, [], ◌∷◌, ◌++◌, Option, Some, None, slice_get, is_some, nat_eq, refl, sym, ap, ◌∙◌, subst, subst₂, append_assoc, append-nil, inl, inr, arith, le_refl}
+use Rattle.std.proofs.Common.{◌≡◌, ◌≤◌, ℕ, zero, suc, Bool, true, false, ◌||◌, List, [], ◌∷◌, ◌++◌, Option, Some, None, slice_get, is_some, nat_eq, refl, sym, ap, ◌∙◌, subst, subst₂, append_assoc, append-nil, inl, inr, arith}
 use Rattle.sb_base.specs.declared.refusals.Place.{Place}
-use Rattle.sb_parse.specs.Parser.{Parser, at_next, never, ◌>>=◌, pure, refuse, taken, choose, only, guard, looped}
+use Rattle.sb_parse.specs.Parser.{never, choose, guard}
 use Rattle.sb_parse.specs.Lawful.{Lawful, OnHead, Joined, Begun, IsEmpty, Mapped, Closed, Unbarred, Either, Turns, over, turn}
-use Rattle.sb_parse.proofs.Joining.{never_next, in_order, via, nothing, map_of}
+use Rattle.sb_parse.proofs.Joining.{via, nothing, map_of}
 use Rattle.sb_parse.proofs.Heads.{begun, begun_heads, headed, head_map_of, at_head, guarded, barred, closed, either_of, only_of}
 use Rattle.sb_parse.proofs.Looping.{looping}
 use Rattle.sb_top.specs.declared.lexeme.Lexeme.{Lexeme}

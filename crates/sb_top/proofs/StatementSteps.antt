@@ -1,6 +1,6 @@
 -- What the reader of a statement computes, by the next word or mark.
-use Rattle.std.proofs.Common.{◌≡◌, ◌-◌, ◌+◌, ◌<◌, ◌≤◌, ℕ, zero, suc, Bool, true, false, ◌||◌, List, [], ◌∷◌, length, nat_eq, if◌then◌else◌, refl, sym, ap, ◌∙◌, arith}
-use Rattle.sb_parse.specs.Parser.{Parser, Outcome, done, stop, at_next, and_then, ◌>>=◌, pure, choose, only, guard, refuse, loop, looped}
+use Rattle.std.proofs.Common.{◌≡◌, ◌-◌, ◌+◌, ◌<◌, ◌≤◌, ℕ, zero, suc, true, false, ◌||◌, List, [], ◌∷◌, length, refl, sym, ap, ◌∙◌, arith}
+use Rattle.sb_parse.specs.Parser.{Outcome, done, stop, at_next, and_then, pure, choose, guard, refuse, loop}
 use Rattle.sb_parse.proofs.Heads.{passes_first, passes_second, chosen}
 use Rattle.sb_top.specs.declared.reading.ReadFault.{ReadFault}
 use Rattle.sb_top.specs.declared.reading.ReadFault.TheVariants.{Refused, Memory}
@@ -10,7 +10,7 @@ use Rattle.sb_top.specs.declared.lexeme.Lexeme.TheVariants as sign
 use Rattle.sb_top.specs.declared.lexeme.Piece.{Piece}
 use Rattle.sb_top.specs.declared.syntax.Param.{Param}
 use Rattle.sb_top.specs.Syntax.{Plain}
-use Rattle.sb_top.specs.Marks.{Reader, misplaced, is_mark, mark}
+use Rattle.sb_top.specs.Marks.{Reader, misplaced, is_mark}
 use Rattle.sb_top.specs.Params.{is_zero}
 use Rattle.sb_top.specs.Statements.{begins_store, begins_statement, store, conditional, braced, statement, statements, statement_more, in_order}
 

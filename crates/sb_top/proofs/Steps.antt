@@ -1,7 +1,6 @@
 -- What the steps of the readers in code compute.
-use Rattle.std.proofs.Common.{◌≡◌, ◌≢◌, ◌↔◌, ℕ, Bool, true, false, List, [], ◌∷◌, length, drop, Option, Some, None, if◌then◌else◌, IsTrue, refl, sym, ap, ◌∙◌, true≢false}
-use Rattle.sb_base.specs.declared.interning.Name.{Name}
-use Rattle.sb_parse.specs.Parser.{Outcome, done, stop, peeked, at_next, token, taken, taken_as}
+use Rattle.std.proofs.Common.{◌≡◌, ◌↔◌, Bool, true, false, List, [], ◌∷◌, length, Option, Some, None, if◌then◌else◌, IsTrue, refl, sym, ap, ◌∙◌, true≢false}
+use Rattle.sb_parse.specs.Parser.{done, stop, at_next, token, taken, taken_as}
 use Rattle.sb_top.specs.declared.lexeme.Lexeme.{Lexeme}
 use Rattle.sb_top.specs.declared.lexeme.Lexeme.TheVariants.{Other}
 use Rattle.sb_top.specs.declared.lexeme.Piece.{Piece}

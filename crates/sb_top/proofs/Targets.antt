@@ -1,5 +1,5 @@
 -- the rule of a store by its target
-use Rattle.std.proofs.Common.{◌≡◌, ◌<◌, ℕ, List, Option, Some, None, length, slice_get, refl, sym, ap, subst, ◌∙◌, Bool, pos, Result}
+use Rattle.std.proofs.Common.{◌≡◌, ℕ, List, Option, Some, None, slice_get, refl, sym, ap, subst, ◌∙◌, Bool, pos, Result}
 use Rattle.sb_base.specs.declared.refusals.Place.{Place}
 use Rattle.sb_term.specs.Linear.{Linear}
 use Rattle.sb_top.specs.declared.picture.Value.{Value}

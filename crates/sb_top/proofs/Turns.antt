@@ -1,10 +1,10 @@
 -- one turn of each loop that asks
-use Rattle.std.proofs.Common.{◌≡◌, ℕ, suc, ◌+◌, ◌<◌, Bool, true, false, List, [], ◌∷◌, ◌++◌, length, drop, get_or, Option, Some, None, if◌then◌else◌, refl, sym, ap, ◌∙◌, add-one, drop-cons, arith}
+use Rattle.std.proofs.Common.{◌≡◌, ℕ, suc, ◌+◌, ◌<◌, Bool, false, List, [], ◌∷◌, ◌++◌, length, drop, get_or, Option, if◌then◌else◌, sym, ap, ◌∙◌, add-one, drop-cons}
 use Rattle.sb_term.specs.declared.query.Query.{Query}
 use Rattle.sb_term.specs.declared.answer.Answer.{Answer}
 use Rattle.sb_term.specs.declared.fault.DecideFault.{DecideFault}
 use Rattle.sb_term.specs.Linear.{Linear}
-use Rattle.sb_term.specs.Asks.{Asks, Done, Ask, after_it, Ended, ended, stopped, run}
+use Rattle.sb_term.specs.Asks.{Asks, Done, ended, run}
 use Rattle.sb_top.specs.declared.picture.Picture.{Picture}
 use Rattle.sb_term.specs.declared.row.Row.{Row}
 use Rattle.sb_base.specs.declared.refusals.Place.{Place}

@@ -1,5 +1,5 @@
 -- The words that give a value, and the relation's words for them.
-use Rattle.std.proofs.Common.{◌≡◌, ◌<◌, ◌^◌, ℕ, zero, suc, Bool, true, false, List, [], ◌∷◌, Option, Some, None, nat_lt, slice_get, is_some, if◌then◌else◌, refl, sym, ap, ◌∙◌, subst, ltb-true, lt-ltb}
+use Rattle.std.proofs.Common.{◌≡◌, ◌^◌, ℕ, Bool, true, false, List, [], ◌∷◌, Option, Some, None, nat_lt, slice_get, if◌then◌else◌, refl, sym, ap, ◌∙◌, subst, ltb-true, lt-ltb}
 use Rattle.sb_base.specs.declared.interning.Name.{Name}
 use Rattle.sb_top.specs.declared.lexeme.Lexeme.{Lexeme}
 use Rattle.sb_top.specs.declared.lexeme.Lexeme.TheVariants as sign
@@ -12,7 +12,7 @@ use Rattle.sb_top.specs.declared.syntax.ParamKind.TheVariants.{Int, Unsigned, Ou
 use Rattle.sb_top.specs.declared.syntax.Simple.{Simple}
 use Rattle.sb_top.specs.declared.syntax.Simple.TheVariants as simple
 use Rattle.sb_top.specs.Grammar.{◌at◌, AreDistinct, names_of, is_number, type_of, agree, IsSimple, is_constant, is_param, IsComparison, is_less, is_at_most, is_greater, is_at_least, is_equal, is_not_equal}
-use Rattle.sb_top.specs.Statements.{found, number_of_kind, number_found, pointer_of_kind, pointer_found, constant, simple_at, array_at, comparison_at, of_type, of_int, right_at, value_at}
+use Rattle.sb_top.specs.Statements.{found, number_of_kind, number_found, pointer_of_kind, pointer_found, simple_at, array_at, comparison_at, of_type, of_int, right_at, value_at}
 use Rattle.sb_top.proofs.Distinct.{found_is, is_found}
 
 -- ---- numbers and number parameters

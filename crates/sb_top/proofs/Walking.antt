@@ -1,9 +1,9 @@
 -- one turn of the walk over a list of statements
-use Rattle.std.proofs.Common.{◌≡◌, ℕ, ◌+◌, ◌<◌, List, [], ◌∷◌, length, drop, get_or, map, Option, None, Result, Ok, Err, refl, sym, ap, ◌∙◌, subst}
+use Rattle.std.proofs.Common.{◌≡◌, ℕ, ◌+◌, ◌<◌, List, length, drop, get_or, map, Option, Result, Err, sym, ap, ◌∙◌, subst}
 use Rattle.sb_term.specs.declared.query.Query.{Query}
 use Rattle.sb_term.specs.declared.answer.Answer.{Answer}
 use Rattle.sb_term.specs.declared.fault.DecideFault.{DecideFault}
-use Rattle.sb_term.specs.Asks.{Asks, after_it, Ended, ended, stopped, run}
+use Rattle.sb_term.specs.Asks.{Ended, ended, run}
 use Rattle.sb_term.specs.AskLaws.{goes_on}
 use Rattle.sb_top.specs.declared.syntax.Statement.{Statement}
 use Rattle.sb_top.specs.declared.picture.Picture.{Picture}

@@ -1,6 +1,6 @@
 -- What the reader of a whole text says in the subject's words.
 use Rattle.std.proofs.Common.{◌≡◌, ◌<◌, ◌≤◌, ℕ, List, [], ◌∷◌, length, Result, Ok, Err, Vec, Global, IfOk, refl, sym, ap, ◌∙◌, subst, arith}
-use Rattle.sb_parse.specs.Parser.{Outcome, done, stop, ended}
+use Rattle.sb_parse.specs.Parser.{done, stop, ended}
 use Rattle.sb_parse.specs.Read.{IsRefused}
 use Rattle.sb_top.specs.declared.lexeme.Piece.{Piece}
 use Rattle.sb_top.specs.declared.reading.ReadFault.{ReadFault}

@@ -1,7 +1,6 @@
 -- What the readers of single words in code compute.
-use Rattle.std.proofs.Common.{◌≡◌, ℕ, List, [], ◌∷◌, Option, None, is_some, refl}
+use Rattle.std.proofs.Common.{◌≡◌, List, [], ◌∷◌, is_some, refl}
 use Rattle.sb_parse.specs.Parser.{at_next, taken}
-use Rattle.sb_top.specs.declared.lexeme.Lexeme.TheVariants.{Other}
 use Rattle.sb_top.specs.declared.lexeme.Piece.{Piece}
 use Rattle.sb_top.specs.declared.syntax.Param.{Param}
 use Rattle.sb_top.specs.declared.syntax.Simple.{Simple}

@@ -1,5 +1,5 @@
 -- The readers of functions and files.
-use Rattle.std.specs.Prelude.{ℕ, Bool, not, List, [], ◌∷◌, ◌++◌, map, Option, Some, None, if◌then◌else◌}
+use Rattle.std.specs.Prelude.{not, List, [], ◌∷◌, ◌++◌, map, Option, Some, None}
 use Rattle.sb_base.specs.declared.interning.Name.{Name}
 use Rattle.sb_base.specs.declared.refusals.Place.{Place}
 use Rattle.sb_parse.specs.Parser.{◌>>=◌, pure, taken, looped, whole}

@@ -1,7 +1,7 @@
 -- The readers of single words and marks.
 use Rattle.std.specs.Prelude.{ℕ, Bool, true, false, nat_eq, List, Option, Some, None}
 use Rattle.sb_base.specs.declared.interning.Name.{Name}
-use Rattle.sb_parse.specs.Parser.{Parser, peeked, token, expect}
+use Rattle.sb_parse.specs.Parser.{Parser, peeked, expect}
 use Rattle.sb_top.specs.declared.lexeme.Lexeme.{Lexeme}
 use Rattle.sb_top.specs.declared.lexeme.Lexeme.TheVariants.{Void, Int, Unsigned, If, OutWrites, Named, Number, OpenParenthesis, CloseParenthesis, OpenBrace, CloseBrace, OpenBracket, CloseBracket, Comma, Semicolon, Assign, Star, Less, AtMost, Greater, AtLeast, Equal, NotEqual, Other}
 use Rattle.sb_top.specs.declared.lexeme.Piece.{Piece}

@@ -1,76 +1,76 @@
 -- which text a call writes, under which status, where nothing fails
-use Rattle.std.specs.Prelude.{◌≡◌, ℕ, ◌-◌, ◌⊎◌, List, [], ◌∷◌, length, drop, nat_eq, Option, Some, None, if◌then◌else◌}
+use Rattle.std.specs.Prelude.{◌≡◌, ℕ, ◌⊎◌, List, [], nat_eq, Option, Some, None, if◌then◌else◌}
 use Rattle.sb_base.specs.declared.refusals.Place.{Place}
-use Rattle.sb_parse.specs.Read.{IsRefused}
+use Rattle.sb_base.specs.declared.tokens.Token.{Token}
+use Rattle.sb_prep.specs.Ending.{Ending, Ended, Refused as RefusedAt}
 use Rattle.sb_term.specs.AnswerOf.{answer_of}
-use Rattle.sb_top.specs.declared.lexeme.Piece.{Piece}
 use Rattle.sb_top.specs.declared.status.Status.{Status}
 use Rattle.sb_top.specs.declared.status.Status.TheVariants.{Clean, Warned, Refused, Usage}
 use Rattle.sb_top.specs.declared.warning.Warning.{Warning}
 use Rattle.sb_top.specs.Syntax.{FunctionTree}
-use Rattle.sb_top.specs.Grammar.{IsFile}
-use Rattle.sb_top.specs.Lexing.{start, after_bytes, Lexes}
 use Rattle.sb_top.specs.Walks.{report}
-use Rattle.sb_top.specs.Texts.{usage, no_such_file, file_too_long, not_built_yet, count_of, report_text}
+use Rattle.sb_top.specs.Texts.{usage, refusal, count_of, report_text}
 use Rattle.sb_top.specs.Contract.{AreSafe}
-use Rattle.sb_top.specs.Words.{file_of_words}
-use Rattle.sb_top.specs.Stands.{Found, Missing, TooBig, Whole, IsFound}
-
--- these bytes are the text of these functions, whose names have their numbers in this table
-pub record IsTextOf (bytes : List ℕ) (texts : List (List ℕ)) (functions : List FunctionTree) : Type 0 where
-  pub pieces : List Piece
-  pub lexes : Lexes [] start bytes pieces texts
-  pub parses : IsFile pieces functions
+use Rattle.sb_top.specs.Words.{files_of_words}
+use Rattle.sb_top.specs.Sets.{most_names, AreUnits, AreRead, IsUnreadAt}
 
 -- a report is clean exactly where it has no warning
 abbrev pub status_of : List (List Warning) → Status
 status_of reports = if nat_eq (count_of reports) 0 then Clean else Warned
 
--- what is written of a file that reads: the report of its functions, whose questions the elimination answers
-pub record IsReported (file bytes : List ℕ) (status : Status) (text : List ℕ) : Type 0 where
-  pub texts : List (List ℕ)
+-- what is written of units that read: the report of their functions, whose questions the elimination answers
+pub record IsReported (texts files : List (List ℕ)) (units : List (List Token)) (status : Status) (text : List ℕ) : Type 0 where
   pub functions : List FunctionTree
-  pub is_text : IsTextOf bytes texts functions
+  pub are_read : AreRead texts units functions
   pub status_is : status ≡ status_of (report answer_of functions)
-  pub text_is : text ≡ report_text file texts (report answer_of functions)
+  pub text_is : text ≡ report_text files texts (report answer_of functions)
 
--- where the first piece stands; at the end, the place just past the last byte
-abbrev pub place_of : Place → List Piece → Place
-place_of end [] = end
-place_of end (t ∷ rest) = t.place
+-- the number of a refusal of what is in no text of the grammar
+abbrev pub not_built_yet : ℕ
+not_built_yet = 33
 
--- what is written of a file that does not read: no text of the grammar goes on with the first of the last `left` pieces
-pub record IsUnread (file bytes : List ℕ) (status : Status) (text : List ℕ) : Type 0 where
-  pub pieces : List Piece
-  pub texts : List (List ℕ)
-  pub left : ℕ
-  pub lexes : Lexes [] start bytes pieces texts
-  pub refused : IsRefused IsFile pieces left
+-- what is written of units of which one does not read
+pub record IsUnread (texts files : List (List ℕ)) (units : List (List Token)) (status : Status) (text : List ℕ) : Type 0 where
+  pub place : Place
+  pub is_unread : IsUnreadAt texts units place
   pub status_is : status ≡ Refused
-  pub text_is : text ≡ not_built_yet file (place_of (after_bytes start bytes) (drop (length pieces - left) pieces))
+  pub text_is : text ≡ refusal files place not_built_yet
 
--- what is written of a file, by what was found under its name
-abbrev pub IsOutcome : List ℕ → Found → Status → List ℕ → Type 0
-IsOutcome file Missing status text = (status ≡ Refused) × (text ≡ no_such_file file)
-IsOutcome file TooBig status text = (status ≡ Refused) × (text ≡ file_too_long file)
-IsOutcome file (Whole bytes) status text = IsReported file bytes status text ⊎ IsUnread file bytes status text
+-- what is written of units by how they end
+abbrev pub IsEndOf : List (List ℕ) → List (List ℕ) → List (List Token) → Ending → Status → List ℕ → Type 0
+IsEndOf texts files units Ended status text = IsReported texts files units status text ⊎ IsUnread texts files units status text
+IsEndOf texts files units (RefusedAt number place) status text = (status ≡ Refused) × (text ≡ refusal files place number)
 
--- what is written where the words ask for this file, or are no command
-abbrev pub IsAnswer : Option (List ℕ → Option (List ℕ)) → Option (List ℕ) → Status → List ℕ → Type 0
+-- what is written of some files: their units begin without names and without files
+pub record IsOutcome (held : Option (List ℕ → Option (List ℕ))) (names : List (List ℕ)) (status : Status) (text : List ℕ) : Type 0 where
+  pub texts : List (List ℕ)
+  pub files : List (List ℕ)
+  pub units : List (List Token)
+  pub end : Ending
+  pub are_units : AreUnits held most_names [] [] names units texts files end
+  pub is_end : IsEndOf texts files units end status text
+
+-- what is written where the words ask for these files, or are no command
+abbrev pub IsAnswer : Option (List ℕ → Option (List ℕ)) → Option (List (List ℕ)) → Status → List ℕ → Type 0
 IsAnswer held None status text = (status ≡ Usage) × (text ≡ usage)
-IsAnswer held (Some file) status text = (found : Found) × IsFound held file found × IsOutcome file found status text
+IsAnswer held (Some names) status text = IsOutcome held names status text
 
 abbrev pub IsDefined : Option (List ℕ → Option (List ℕ)) → List (List ℕ) → Status → List ℕ → Type 0
-IsDefined held words status text = IsAnswer held (file_of_words words) status text
+IsDefined held words status text = IsAnswer held (files_of_words words) status text
 
--- the functions of the file that the words ask for, as a map from names to bytes holds it
+-- where a library tells its content, one text is defined, under one status
+abbrev pub HasOneOutcome : (List ℕ → Option (List ℕ)) → List (List ℕ) → Type 0
+HasOneOutcome held words = (status other : Status) (text more : List ℕ) → IsDefined (Some held) words status text → IsDefined (Some held) words other more → (status ≡ other) × (text ≡ more)
+
+-- these are the functions of the files that the words ask for, as a map from names to bytes holds them
 pub record IsSet (held : List ℕ → Option (List ℕ)) (words : List (List ℕ)) (functions : List FunctionTree) : Type 0 where
-  pub file : List ℕ
-  pub bytes : List ℕ
+  pub names : List (List ℕ)
   pub texts : List (List ℕ)
-  pub asked : file_of_words words ≡ Some file
-  pub holds : held file ≡ Some bytes
-  pub is_text : IsTextOf bytes texts functions
+  pub files : List (List ℕ)
+  pub units : List (List Token)
+  pub asked : files_of_words words ≡ Some names
+  pub are_units : AreUnits (Some held) most_names [] [] names units texts files Ended
+  pub are_read : AreRead texts units functions
 
 -- the functions that the words ask for are there, and each is safe
 abbrev pub AreSafeIn : (List ℕ → Option (List ℕ)) → List (List ℕ) → Type 0

@@ -1,6 +1,5 @@
 -- the warnings of a function: by place and number, of equal ones the first that was asked
-use Rattle.std.specs.Prelude.{◌≡◌, ℕ, Bool, true, false, ◌&&◌, ◌||◌, List, [], ◌∷◌, Option, Some, None, insert, codes, nat_eq, nat_lt, if◌then◌else◌}
-use Rattle.sb_base.specs.declared.refusals.Place.{Place}
+use Rattle.std.specs.Prelude.{ℕ, Bool, ◌&&◌, ◌||◌, List, [], ◌∷◌, Option, Some, None, insert, codes, nat_eq, nat_lt, if◌then◌else◌}
 use Rattle.sb_top.specs.declared.warning.Need.{Need}
 use Rattle.sb_top.specs.declared.warning.Need.TheVariants.{Present, Known, FromStart, BeforeEnd}
 use Rattle.sb_top.specs.declared.warning.Warning.{Warning}

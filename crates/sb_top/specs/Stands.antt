@@ -1,5 +1,5 @@
 -- what stands in a sink after a call, by its status
-use Rattle.std.specs.Prelude.{◌≡◌, ℕ, ◌≤◌, ◌<◌, ◌⊎◌, List, ◌++◌, length, take, Option, Some, None}
+use Rattle.std.specs.Prelude.{◌≡◌, ℕ, ◌⊎◌, List, ◌++◌, take, Option, Some, None}
 use Rattle.sb_top.specs.declared.status.Status.{Status}
 use Rattle.sb_top.specs.declared.status.Status.TheVariants.{Clean, Warned, Refused, Usage, ReadFault, WriteFault, Memory}
 
@@ -11,25 +11,6 @@ HasWritten (Some before) now text = now ≡ Some (before ++ text)
 abbrev pub HasWrittenPart : Option (List ℕ) → Option (List ℕ) → List ℕ → Type 0
 HasWrittenPart None now text = now ≡ None
 HasWrittenPart (Some before) now text = (count : ℕ) × (now ≡ Some (before ++ take count text))
-
--- a file has at most 4,194,304 bytes
-abbrev pub most_bytes : ℕ
-most_bytes = 4194304
-
--- what a library has under a name; one that tells nothing may have anything
-pub data Found : Type 0 where
-  Missing : Found
-  TooBig : Found
-  Whole : List ℕ → Found
-
-abbrev pub IsHeld : (List ℕ → Option (List ℕ)) → List ℕ → Found → Type 0
-IsHeld held name Missing = held name ≡ None
-IsHeld held name TooBig = (bytes : List ℕ) × (held name ≡ Some bytes) × (most_bytes < length bytes)
-IsHeld held name (Whole bytes) = (held name ≡ Some bytes) × (length bytes ≤ most_bytes)
-
-abbrev pub IsFound : Option (List ℕ → Option (List ℕ)) → List ℕ → Found → Type 0
-IsFound None name found = Unit {0}
-IsFound (Some held) name found = IsHeld held name found
 
 -- `IsDefined status text` says which text is written under which status where nothing fails. After a fault of reading nothing
 -- stands, and after want of memory or a fault of writing a prefix of a defined text

@@ -1,5 +1,5 @@
 -- The readers of statements.
-use Rattle.std.specs.Prelude.{ℕ, zero, suc, ◌^◌, Bool, true, false, ◌||◌, nat_lt, List, [], ◌∷◌, ◌++◌, Option, Some, None, is_some, if◌then◌else◌}
+use Rattle.std.specs.Prelude.{ℕ, zero, suc, ◌^◌, Bool, ◌||◌, nat_lt, List, [], ◌∷◌, ◌++◌, Option, Some, None, is_some, if◌then◌else◌}
 use Rattle.sb_base.specs.declared.interning.Name.{Name}
 use Rattle.sb_parse.specs.Parser.{◌>>=◌, pure, refuse, taken, expect, choose, only, guard, looped}
 use Rattle.sb_top.specs.declared.lexeme.Lexeme.{Lexeme}

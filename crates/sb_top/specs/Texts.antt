@@ -1,6 +1,7 @@
 -- the lines that are written
 use Rattle.std.specs.Prelude.{ℕ, ◌+◌, List, [], ◌∷◌, ◌++◌, length, slice_get, nat_eq, Option, Some, None, if◌then◌else◌, codes}
 use Rattle.std.specs.Fmt.{decimal, signed_decimal}
+use Rattle.std.specs.Option.{option_map_or}
 use Rattle.sb_base.specs.declared.refusals.Place.{Place}
 use Rattle.sb_term.specs.declared.sym.Sym.{Sym}
 use Rattle.sb_term.specs.declared.answer.Answer.{Answer}
@@ -17,24 +18,39 @@ use Rattle.sb_top.specs.Reports.{number_of}
 abbrev pub usage : List ℕ
 usage = codes "usage: prefast COMMAND ARGUMENT...\n"
 
--- PLACE: refused N: TEXT
-abbrev pub refusal : List ℕ → Place → ℕ → List ℕ → List ℕ
-refusal file at number text =
-    file ++ (codes ":" ++ (decimal at.line ++ (codes ":" ++ (decimal at.col ++ (codes ": refused " ++ (decimal number ++ (codes ": " ++ (text ++ codes "\n"))))))))
+-- the name of a file, by its number in the table of files; a number that the table lacks names nothing
+abbrev pub file_name : List (List ℕ) → ℕ → List ℕ
+file_name files file = option_map_or (λ name. name) (slice_get files file) []
 
--- a file that is absent or too long has line 0 and column 0
-abbrev pub nowhere : Place
-nowhere = record { file = 0; line = 0; col = 0 }
+-- what each number refuses
+abbrev pub refused_for : ℕ → List ℕ
+refused_for number =
+    if nat_eq number 1 then codes "comment not closed"
+    else (if nat_eq number 2 then codes "literal not closed"
+    else (if nat_eq number 3 then codes "bad byte"
+    else (if nat_eq number 4 then codes "bad number"
+    else (if nat_eq number 5 then codes "too many pieces in a file"
+    else (if nat_eq number 11 then codes "bad definition"
+    else (if nat_eq number 12 then codes "macro redefined"
+    else (if nat_eq number 13 then codes "argument count"
+    else (if nat_eq number 14 then codes "macro call not closed"
+    else (if nat_eq number 15 then codes "outside the preprocessor profile"
+    else (if nat_eq number 16 then codes "too many tokens"
+    else (if nat_eq number 21 then codes "no such file"
+    else (if nat_eq number 22 then codes "file too long"
+    else (if nat_eq number 23 then codes "includes too deep"
+    else (if nat_eq number 24 then codes "bad directive"
+    else (if nat_eq number 25 then codes "conditionals not balanced"
+    else (if nat_eq number 26 then codes "bad condition"
+    else (if nat_eq number 27 then codes "error directive"
+    else (if nat_eq number 28 then codes "too many names"
+    else (if nat_eq number 33 then codes "outside the profile: not built yet"
+    else codes "outside the profile")))))))))))))))))))
 
-abbrev pub no_such_file : List ℕ → List ℕ
-no_such_file file = refusal file nowhere 21 (codes "no such file")
-
-abbrev pub file_too_long : List ℕ → List ℕ
-file_too_long file = refusal file nowhere 22 (codes "file too long")
-
--- what no text of the built grammar goes on with
-abbrev pub not_built_yet : List ℕ → Place → List ℕ
-not_built_yet file at = refusal file at 33 (codes "outside the profile: not built yet")
+-- FILE:LINE:COL: refused N: TEXT
+abbrev pub refusal : List (List ℕ) → Place → ℕ → List ℕ
+refusal files at number =
+    file_name files at.file ++ (codes ":" ++ (decimal at.line ++ (codes ":" ++ (decimal at.col ++ (codes ": refused " ++ (decimal number ++ (codes ": " ++ (refused_for number ++ codes "\n"))))))))
 
 abbrev pub text_of : Need → List ℕ
 text_of need.Present = codes "may be null"
@@ -81,18 +97,18 @@ reason texts labels (Refuted a) = codes "  refuted by " ++ (assignment texts lab
 reason texts labels LimitRows = codes "  limit: rows\n"
 reason texts labels LimitDigits = codes "  limit: digits\n"
 
--- PLACE: warning N: TEXT, and why
-abbrev pub warning : List ℕ → List (List ℕ) → Warning → List ℕ
-warning file texts w =
-    file ++ (codes ":" ++ (decimal w.place.line ++ (codes ":" ++ (decimal w.place.col ++ (codes ": warning " ++ (decimal (number_of w.need) ++ (codes ": " ++ (text_of w.need ++ (codes "\n" ++ reason texts w.labels w.answer)))))))))
+-- FILE:LINE:COL: warning N: TEXT, and why; `files` is the table of files, `texts` that of names
+abbrev pub warning : List (List ℕ) → List (List ℕ) → Warning → List ℕ
+warning files texts w =
+    file_name files w.place.file ++ (codes ":" ++ (decimal w.place.line ++ (codes ":" ++ (decimal w.place.col ++ (codes ": warning " ++ (decimal (number_of w.need) ++ (codes ": " ++ (text_of w.need ++ (codes "\n" ++ reason texts w.labels w.answer)))))))))
 
-abbrev pub warnings : List ℕ → List (List ℕ) → List Warning → List ℕ
-warnings file texts [] = []
-warnings file texts (w ∷ ws) = warning file texts w ++ warnings file texts ws
+abbrev pub warnings : List (List ℕ) → List (List ℕ) → List Warning → List ℕ
+warnings files texts [] = []
+warnings files texts (w ∷ ws) = warning files texts w ++ warnings files texts ws
 
-abbrev pub functions : List ℕ → List (List ℕ) → List (List Warning) → List ℕ
-functions file texts [] = []
-functions file texts (f ∷ fs) = warnings file texts f ++ functions file texts fs
+abbrev pub functions : List (List ℕ) → List (List ℕ) → List (List Warning) → List ℕ
+functions files texts [] = []
+functions files texts (f ∷ fs) = warnings files texts f ++ functions files texts fs
 
 abbrev pub count_of : List (List Warning) → ℕ
 count_of [] = 0
@@ -102,5 +118,5 @@ count_of (f ∷ fs) = length f + count_of fs
 abbrev pub last_line : ℕ → ℕ → List ℕ
 last_line warnings functions = decimal warnings ++ (codes " warnings in " ++ (decimal functions ++ codes " functions\n"))
 
-abbrev pub report_text : List ℕ → List (List ℕ) → List (List Warning) → List ℕ
-report_text file texts reports = functions file texts reports ++ last_line (count_of reports) (length reports)
+abbrev pub report_text : List (List ℕ) → List (List ℕ) → List (List Warning) → List ℕ
+report_text files texts reports = functions files texts reports ++ last_line (count_of reports) (length reports)

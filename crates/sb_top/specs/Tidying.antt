@@ -1,5 +1,5 @@
 -- after each statement, symbols that occur in facts alone are eliminated where that makes no more rows
-use Rattle.std.specs.Prelude.{ℕ, zero, suc, ◌+◌, ◌-◌, ◌*◌, ◌/◌, Bool, true, false, ◌&&◌, ◌||◌, not, List, [], ◌∷◌, ◌++◌, length, take, insert, slice_set, slice_index_or, ℤ, pos, negsuc, nat_eq, nat_lt, nat_le, int_lt, unsigned_abs, Option, Some, None, if◌then◌else◌}
+use Rattle.std.specs.Prelude.{ℕ, ◌+◌, ◌-◌, ◌*◌, ◌/◌, Bool, true, false, ◌&&◌, ◌||◌, not, List, [], ◌∷◌, ◌++◌, length, take, insert, slice_set, slice_index_or, pos, nat_eq, nat_le, int_lt, unsigned_abs, Option, Some, None, if◌then◌else◌}
 use Rattle.std.specs.List.{list_any, filter}
 use Rattle.sb_term.specs.declared.entry.Entry.{Entry}
 use Rattle.sb_term.specs.declared.row.Row.{Row}

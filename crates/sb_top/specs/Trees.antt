@@ -9,7 +9,7 @@ use Rattle.sb_top.specs.declared.syntax.Statement.{Statement}
 use Rattle.sb_top.specs.declared.syntax.Statement.TheOpen.{Statement-F}
 use Rattle.sb_top.specs.declared.syntax.Statement.TheFolds.{fold-Statement}
 use Rattle.sb_top.specs.declared.syntax.Function.{Function}
-use Rattle.sb_top.specs.Syntax.{Plain, Skip, Then, Store, Choose, FunctionTree}
+use Rattle.sb_top.specs.Syntax.{Plain, Store, Choose, FunctionTree}
 use Rattle.sb_top.specs.Statements.{in_order}
 
 abbrev pub plain_step : Statement-F Plain → Plain

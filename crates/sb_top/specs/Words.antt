@@ -1,5 +1,6 @@
 -- the words of a command line
-use Rattle.std.specs.Prelude.{ℕ, Bool, true, false, List, [], ◌∷◌, nat_eq, Option, Some, None, if◌then◌else◌, codes}
+use Rattle.std.specs.Prelude.{ℕ, Bool, true, false, ◌&&◌, List, [], ◌∷◌, length, nat_eq, nat_le, Option, Some, None, if◌then◌else◌, codes}
+use Rattle.std.specs.List.{list_all}
 use Rattle.std.specs.Str.{bytes_eq}
 
 -- a name of a file is not empty and does not begin with `-`
@@ -7,12 +8,14 @@ abbrev pub is_file_name : List ℕ → Bool
 is_file_name [] = false
 is_file_name (b ∷ bs) = if nat_eq b 45 then false else true
 
--- `check FILE` is the one command
-abbrev pub file_of : List ℕ → List ℕ → Option (List ℕ)
-file_of command file = if bytes_eq command (codes "check") then (if is_file_name file then Some file else None) else None
+-- a set has 1 to 256 files
+abbrev pub are_file_names : List (List ℕ) → Bool
+are_file_names names = nat_le 1 (length names) && (nat_le (length names) 256 && list_all is_file_name names)
 
-abbrev pub file_of_words : List (List ℕ) → Option (List ℕ)
-file_of_words [] = None
-file_of_words (command ∷ []) = None
-file_of_words (command ∷ file ∷ []) = file_of command file
-file_of_words (command ∷ file ∷ more ∷ words) = None
+-- `check FILE...` is the one command
+abbrev pub files_of : List ℕ → List (List ℕ) → Option (List (List ℕ))
+files_of command names = if bytes_eq command (codes "check") && are_file_names names then Some names else None
+
+abbrev pub files_of_words : List (List ℕ) → Option (List (List ℕ))
+files_of_words [] = None
+files_of_words (command ∷ names) = files_of command names

@@ -1,52 +1,35 @@
-//! The answer to the words of a command line: the file that they ask for is read and judged.
-ghost use Rattle.std.specs.Prelude.{◌≡◌, ◌≤◌, IfOk, length, map, string_bytes};
-ghost use Rattle.sb_top.specs.Stands.{Whole, most_bytes};
-ghost use Rattle.sb_top.specs.Fetching.{seen, IsWithinLimit, HasReadCause};
-ghost use Rattle.sb_top.specs.Outcomes.{IsOutcome, IsDefined};
+//! The answer to the words of a command line: the files that they ask for are preprocessed, read and judged.
+ghost use Rattle.std.specs.Prelude.{◌≡◌, IfOk, map, string_bytes};
+ghost use Rattle.sb_base.specs.Found.{HasReadCause};
+ghost use Rattle.sb_prep.specs.Ending.Ending.{Ended};
+ghost use Rattle.sb_top.specs.Sets.{tokens_of};
+ghost use Rattle.sb_top.specs.Outcomes.{IsEndOf, IsDefined};
 
-use crate::command::file_of_words;
-use crate::fetch::{Found, fetch_file};
-use crate::files::read_file;
+use crate::command::files_of_words;
 use crate::judging::judged;
-use crate::lexer::pieces;
-use crate::reading::ReadFault;
-use crate::reply::{Reply, reported, unread, usage};
-use crate::status::Status;
-use crate::texts::{file_too_long, no_such_file};
-use sb_base::{FetchFault, Library, Names};
+use crate::reply::{Reply, refused, reported, unread, usage};
+use crate::sets::{SetFault, read_units, units};
+use sb_base::{FetchFault, Files, Library, Names, Token};
+use sb_prep::UnitFault;
 use std::alloc::{AllocError, Global};
 
-/// What is written of the bytes of a file.
-fn reply_to_bytes(alloc: Global, file: &[u8], bytes: &[u8]) -> Result<Reply, AllocError>
-    requires { length bytes.now ≤ most_bytes }
-    ensures { IfOk result (λ reply. IsOutcome file.now (Whole bytes.now) reply.status reply.text.items) }
+/// What is written of units that are whole.
+fn reply_to_units(
+    alloc: Global,
+    names: &Names,
+    files: &Files,
+    units: &[Vec<Token>],
+) -> Result<Reply, AllocError>
+    ensures { IfOk result (λ reply. IsEndOf names.now.texts files.now (tokens_of units.now) Ended reply.status reply.text.items) }
 {
-    let mut names = Names::new(alloc, u32::MAX);
-    let pieces = pieces(alloc, bytes, &mut names)?;
-    match read_file(alloc, pieces.as_slice()) {
+    match read_units(alloc, names, units) {
         Ok(functions) => {
             let reports = judged(alloc, functions.as_slice())?;
-            reported(alloc, file, &names, reports.as_slice())
+            reported(alloc, files, names, reports.as_slice())
         }
-        Err(ReadFault::Refused(left)) => unread(alloc, file, bytes, pieces.as_slice(), left),
-        Err(ReadFault::Memory) => Err(AllocError),
+        Err(SetFault::Unread(place)) => unread(alloc, files, place),
+        Err(SetFault::Memory) => Err(AllocError),
     }
-}
-
-/// What is written of a file, by what was found under its name.
-fn reply_to_found(alloc: Global, file: &[u8], found: &Found) -> Result<Reply, AllocError>
-    requires { IsWithinLimit found.now }
-    ensures { IfOk result (λ reply. IsOutcome file.now (seen found.now) reply.status reply.text.items) }
-{
-    let text = match found {
-        Found::Missing => no_such_file(alloc, file)?,
-        Found::TooBig => file_too_long(alloc, file)?,
-        Found::Whole(bytes) => return reply_to_bytes(alloc, file, bytes.as_slice()),
-    };
-    Ok(Reply {
-        status: Status::Refused,
-        text,
-    })
 }
 
 /// What is written in answer to some words.
@@ -59,10 +42,16 @@ pub(crate) fn reply_to<L: Library>(
     ensures held { L.held lib.new ≡ L.held lib.old }
     ensures cause { HasReadCause (L.faults lib.old) (L.faults lib.new) result }
 {
-    let Some(file) = file_of_words(words) else {
+    let Some(asked) = files_of_words(words) else {
         return Ok(usage(alloc)?);
     };
-    let found = fetch_file(alloc, lib, file)?;
-    let reply = reply_to_found(alloc, file, &found)?;
+    let mut names = Names::new(alloc, u32::MAX);
+    let mut files = Files::new(alloc);
+    let reply = match units(alloc, &mut names, &mut files, lib, asked) {
+        Ok(units) => reply_to_units(alloc, &names, &files, units.as_slice())?,
+        Err(UnitFault::Refused(refusal)) => refused(alloc, &files, refusal)?,
+        Err(UnitFault::Read) => return Err(FetchFault::Failed),
+        Err(UnitFault::Memory) => return Err(FetchFault::Memory),
+    };
     Ok(reply)
 }

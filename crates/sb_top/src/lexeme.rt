@@ -1,4 +1,4 @@
-//! The words and marks of a text, each with its place.
+//! The words and marks of a unit, each with its place.
 
 use sb_base::{Name, Place};
 
@@ -30,7 +30,7 @@ pub enum Lexeme {
     AtLeast,
     Equal,
     NotEqual,
-    /// Bytes that are none of these: no text of the grammar has them.
+    /// Anything else: no text of the grammar has it.
     Other,
 }
 
@@ -39,12 +39,4 @@ pub enum Lexeme {
 pub struct Piece {
     pub lexeme: Lexeme,
     pub place: Place,
-}
-
-ghost use Rattle.std.specs.Prelude.{◌≡◌, ◌↔◌, IsTrue};
-
-fn is_same(a: Lexeme, b: Lexeme) -> bool
-    ensures { IsTrue result ↔ a ≡ b }
-{
-    a == b
 }

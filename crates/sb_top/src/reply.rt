@@ -1,18 +1,17 @@
 //! What a call writes where nothing fails, and the status under which it does.
-ghost use Rattle.std.specs.Prelude.{◌≡◌, ◌≤◌, ◌-◌, IfOk, length, drop};
-ghost use Rattle.sb_top.specs.Lexing.{start, after_bytes};
+ghost use Rattle.std.specs.Prelude.{◌≡◌, IfOk};
 ghost use Rattle.sb_top.specs.Texts as text;
-ghost use Rattle.sb_top.specs.Stands.{most_bytes};
-ghost use Rattle.sb_top.specs.Outcomes.{status_of, place_of};
+ghost use Rattle.sb_top.specs.Outcomes.{status_of, not_built_yet};
 
-use crate::lexeme::Piece;
-use crate::lexer::end_place;
 use crate::status::Status;
-use crate::texts::{USAGE, count_of, not_built_yet, report_text};
+use crate::texts::{USAGE, count_of, refusal, report_text};
 use crate::warning::Warning;
-use sb_base::{Names, Place};
+use sb_base::{Files, Names, Place, Refusal};
 use sqlite_items::Items;
 use std::alloc::{AllocError, Global};
+
+/// The number of a refusal of what is in no text of the grammar.
+const NOT_BUILT_YET: u16 = 33;
 
 /// A text, and the status under which it is written.
 #[derive(Drop)]
@@ -36,14 +35,14 @@ pub(crate) fn usage(alloc: Global) -> Result<Reply, AllocError>
 /// A report: clean where it has no warning.
 pub(crate) fn reported(
     alloc: Global,
-    file: &[u8],
+    files: &Files,
     names: &Names,
     reports: &[Items<Warning>],
 ) -> Result<Reply, AllocError>
     ensures status { IfOk result (λ reply. reply.status ≡ status_of reports.now) }
-    ensures text { IfOk result (λ reply. reply.text.items ≡ text.report_text file.now names.now.texts reports.now) }
+    ensures text { IfOk result (λ reply. reply.text.items ≡ text.report_text files.now names.now.texts reports.now) }
 {
-    let text = report_text(alloc, file, names, reports)?;
+    let text = report_text(alloc, files, names, reports)?;
     let status = if count_of(reports) == 0 {
         Status::Clean
     } else {
@@ -52,34 +51,27 @@ pub(crate) fn reported(
     Ok(Reply { status, text })
 }
 
-/// Where the first of the last `left` pieces stands, or the place just past the last byte.
-fn place_of(bytes: &[u8], pieces: &[Piece], left: usize) -> Place
-    requires bytes { length bytes.now ≤ most_bytes }
-    requires left { left ≤ length pieces.now }
-    ensures { result ≡ place_of (after_bytes start bytes.now) (drop (length pieces.now - left) pieces.now) }
-{
-    match pieces[pieces.len() - left..].first() {
-        Some(piece) => piece.place,
-        None => end_place(bytes),
-    }
-}
-
-/// The refusal of a text with whose last `left` pieces no text of the grammar goes on.
-pub(crate) fn unread(
-    alloc: Global,
-    file: &[u8],
-    bytes: &[u8],
-    pieces: &[Piece],
-    left: usize,
-) -> Result<Reply, AllocError>
-    requires bytes { length bytes.now ≤ most_bytes }
-    requires left { left ≤ length pieces.now }
+/// The line of a refusal.
+pub(crate) fn refused(alloc: Global, files: &Files, refused: Refusal) -> Result<Reply, AllocError>
     ensures status { IfOk result (λ reply. reply.status ≡ Status.Refused) }
-    ensures text { IfOk result (λ reply. reply.text.items ≡ text.not_built_yet file.now (place_of (after_bytes start bytes.now) (drop (length pieces.now - left) pieces.now))) }
+    ensures text { IfOk result (λ reply. reply.text.items ≡ text.refusal files.now refused.place refused.number) }
 {
-    let text = not_built_yet(alloc, file, place_of(bytes, pieces, left))?;
+    let text = refusal(alloc, files, refused.place, refused.number)?;
     Ok(Reply {
         status: Status::Refused,
         text,
     })
+}
+
+/// The refusal of a unit that is no text of the grammar, at a place.
+pub(crate) fn unread(alloc: Global, files: &Files, place: Place) -> Result<Reply, AllocError>
+    ensures status { IfOk result (λ reply. reply.status ≡ Status.Refused) }
+    ensures text { IfOk result (λ reply. reply.text.items ≡ text.refusal files.now place not_built_yet) }
+{
+    let refusal = Refusal {
+        number: NOT_BUILT_YET,
+        place,
+        feature: 0,
+    };
+    refused(alloc, files, refusal)
 }

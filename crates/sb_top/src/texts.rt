@@ -6,54 +6,67 @@ ghost use Rattle.sb_top.specs.Texts as text;
 
 use crate::picture::{Label, Part};
 use crate::warning::{Need, Warning};
-use sb_base::{Names, Place};
+use sb_base::{Files, Names, Place};
 use sb_term::{Answer, Rat, Sym};
 use sqlite_items::Items;
 use std::alloc::{AllocError, Global};
 
-/// The place of a file that is absent or too long.
-const NOWHERE: Place = Place {
-    file: 0,
-    line: 0,
-    col: 0,
-};
-
 /// The line that is written where the words are no command.
 pub(crate) const USAGE: &str = "usage: prefast COMMAND ARGUMENT...\n";
 
+/// The name of the file that has a number.
+fn file_name(files: &Files, file: u32) -> &[u8]
+    ensures { result.now ≡ text.file_name files.now file }
+{
+    match files.name(file) {
+        Some(name) => name,
+        None => b"".as_slice(),
+    }
+}
+
+/// What a number refuses.
+fn refused_for(number: u16) -> &'static str
+    ensures { result.now ≡ text.refused_for number }
+{
+    match number {
+        1 => "comment not closed",
+        2 => "literal not closed",
+        3 => "bad byte",
+        4 => "bad number",
+        5 => "too many pieces in a file",
+        11 => "bad definition",
+        12 => "macro redefined",
+        13 => "argument count",
+        14 => "macro call not closed",
+        15 => "outside the preprocessor profile",
+        16 => "too many tokens",
+        21 => "no such file",
+        22 => "file too long",
+        23 => "includes too deep",
+        24 => "bad directive",
+        25 => "conditionals not balanced",
+        26 => "bad condition",
+        27 => "error directive",
+        28 => "too many names",
+        33 => "outside the profile: not built yet",
+        _ => "outside the profile",
+    }
+}
+
 /// The line of a refusal.
-fn refusal(
+pub(crate) fn refusal(
     alloc: Global,
-    file: &[u8],
+    files: &Files,
     place: Place,
     number: u16,
-    what: &str,
 ) -> Result<Vec<u8>, AllocError>
-    ensures { IfOk result (λ line. line.items ≡ text.refusal file.now place number what.now) }
+    ensures { IfOk result (λ line. line.items ≡ text.refusal files.now place number) }
 {
-    let mut line = Vec::from_slice(alloc, file)?;
+    let mut line = Vec::from_slice(alloc, file_name(files, place.file))?;
+    let what = refused_for(number);
     let rest = format!(in alloc; ":{}:{}: refused {number}: {what}\n", place.line, place.col)?;
     line.extend_from_slice(rest.as_bytes())?;
     Ok(line)
-}
-
-pub(crate) fn no_such_file(alloc: Global, file: &[u8]) -> Result<Vec<u8>, AllocError>
-    ensures { IfOk result (λ line. line.items ≡ text.no_such_file file.now) }
-{
-    refusal(alloc, file, NOWHERE, 21, "no such file")
-}
-
-pub(crate) fn file_too_long(alloc: Global, file: &[u8]) -> Result<Vec<u8>, AllocError>
-    ensures { IfOk result (λ line. line.items ≡ text.file_too_long file.now) }
-{
-    refusal(alloc, file, NOWHERE, 22, "file too long")
-}
-
-/// The refusal of what is in no text of the grammar.
-pub(crate) fn not_built_yet(alloc: Global, file: &[u8], place: Place) -> Result<Vec<u8>, AllocError>
-    ensures { IfOk result (λ line. line.items ≡ text.not_built_yet file.now place) }
-{
-    refusal(alloc, file, place, 33, "outside the profile: not built yet")
 }
 
 /// The number of a warning.
@@ -183,18 +196,18 @@ fn append_reason(
 fn append_warning(
     alloc: Global,
     out: &mut Vec<u8>,
-    file: &[u8],
+    files: &Files,
     names: &Names,
     warning: &Warning,
 ) -> Result<(), AllocError>
-    ensures { OnOk result (out.new.items ≡ out.old.items ++ text.warning file.now names.now.texts warning.now) }
+    ensures { OnOk result (out.new.items ≡ out.old.items ++ text.warning files.now names.now.texts warning.now) }
 {
     let (place, number, what) = (
         warning.place,
         number_of(warning.need),
         text_of(warning.need),
     );
-    out.extend_from_slice(file)?;
+    out.extend_from_slice(file_name(files, place.file))?;
     let rest = format!(in alloc; ":{}:{}: warning {number}: {what}\n", place.line, place.col)?;
     out.extend_from_slice(rest.as_bytes())?;
     append_reason(alloc, out, names, &warning.labels, &warning.answer)
@@ -204,14 +217,14 @@ fn append_warning(
 fn append_warnings(
     alloc: Global,
     out: &mut Vec<u8>,
-    file: &[u8],
+    files: &Files,
     names: &Names,
     warnings: &[Warning],
 ) -> Result<(), AllocError>
-    ensures { OnOk result (out.new.items ≡ out.old.items ++ text.warnings file.now names.now.texts warnings.now) }
+    ensures { OnOk result (out.new.items ≡ out.old.items ++ text.warnings files.now names.now.texts warnings.now) }
 {
     for warning in warnings {
-        append_warning(alloc, out, file, names, warning)?;
+        append_warning(alloc, out, files, names, warning)?;
     }
     Ok(())
 }
@@ -230,15 +243,15 @@ pub(crate) fn count_of(reports: &[Items<Warning>]) -> u128
 /// The report: the warnings of each function, and a last line with the counts.
 pub(crate) fn report_text(
     alloc: Global,
-    file: &[u8],
+    files: &Files,
     names: &Names,
     reports: &[Items<Warning>],
 ) -> Result<Vec<u8>, AllocError>
-    ensures { IfOk result (λ bytes. bytes.items ≡ text.report_text file.now names.now.texts reports.now) }
+    ensures { IfOk result (λ bytes. bytes.items ≡ text.report_text files.now names.now.texts reports.now) }
 {
     let mut out = Vec::new(alloc);
     for report in reports {
-        append_warnings(alloc, &mut out, file, names, report.as_slice())?;
+        append_warnings(alloc, &mut out, files, names, report.as_slice())?;
     }
     let (warnings, functions) = (count_of(reports), reports.len());
     let last = format!(in alloc; "{warnings} warnings in {functions} functions\n")?;

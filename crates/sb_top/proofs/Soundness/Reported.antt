@@ -1,9 +1,9 @@
 -- a report without a warning: the set is safe
-use Rattle.std.proofs.Common.{◌≡◌, ℕ, ◌+◌, List, [], ◌∷◌, length, Option, None, refl, arith}
+use Rattle.std.proofs.Common.{◌≡◌, ℕ, ◌+◌, List, [], ◌∷◌, length, None, refl, arith}
 use Rattle.sb_term.specs.declared.query.Query.{Query}
 use Rattle.sb_term.specs.declared.answer.Answer.{Answer}
 use Rattle.sb_term.specs.Answers.{IsLawful}
-use Rattle.sb_term.specs.Asks.{Asks, Done, Ask, Always, Ended, ended, stopped, run}
+use Rattle.sb_term.specs.Asks.{Asks, Done, Ask, Always, ended, run}
 use Rattle.sb_top.specs.declared.warning.Warning.{Warning}
 use Rattle.sb_top.specs.Syntax.{FunctionTree}
 use Rattle.sb_top.specs.Contract.{Safe, AreSafe}

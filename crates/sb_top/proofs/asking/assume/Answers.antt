@@ -1,4 +1,4 @@
-use Rattle.std.proofs.Common.{rules, ◌≡◌, ◌∙◌, ap, sym}
+use Rattle.std.proofs.Common.{rules, ◌∙◌, ap, sym}
 use Rattle.sb_top.specs.Pictures.{with_fact}
 use Rattle.sb_top.proofs.Turns.{assume-turn}
 use Rattle.sb_top.proofs.asking.assume.Goals as goal

@@ -1,5 +1,5 @@
 use Rattle.std.proofs.Common.{◌≡◌, ℕ, suc, ◌+◌, ◌-◌, ◌<◌, List, length, sym, ap, ◌∙◌, arith}
-use Rattle.sb_top.specs.Asking.{spread, closed}
+use Rattle.sb_top.specs.Asking.{closed}
 use Rattle.sb_top.proofs.Closing.{closed-still, closed-goes}
 use Rattle.sb_top.proofs.asking.close.Goals as goal
 

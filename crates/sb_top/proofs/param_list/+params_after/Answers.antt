@@ -1,4 +1,4 @@
-use Rattle.std.proofs.Common.{rules, arith, ◌≡◌, ◌<◌, ◌≤◌, length, sym, ◌∙◌, subst}
+use Rattle.std.proofs.Common.{rules, arith, ◌<◌, ◌≤◌, length, sym, ◌∙◌}
 use Rattle.sb_top.specs.Headers.{seen_of}
 use Rattle.sb_top.proofs.ParamSteps as steps
 use Rattle.sb_top.proofs.param_list.+params_after.Goals as goal

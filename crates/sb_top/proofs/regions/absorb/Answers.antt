@@ -1,4 +1,4 @@
-use Rattle.std.proofs.Common.{◌≡◌, ℕ, suc, ◌+◌, ◌-◌, List, length, position, ap, sym, ◌∙◌, arith}
+use Rattle.std.proofs.Common.{◌≡◌, suc, ◌+◌, ◌-◌, List, length, position, ap, sym, ◌∙◌, arith}
 use Rattle.sb_top.specs.declared.picture.Island.{Island}
 use Rattle.sb_top.specs.Stores.{absorbed, is_next}
 use Rattle.sb_top.proofs.Absorbing.{absorbed-some}

@@ -1,5 +1,4 @@
 use Rattle.std.proofs.Common.{◌≡◌, ◌++◌, drop, take}
-use Rattle.sb_top.specs.Walks.{report}
 use Rattle.sb_top.specs.Reports.{noted}
 use Rattle.sb_top.proofs.reports.spot.Given as goal
 

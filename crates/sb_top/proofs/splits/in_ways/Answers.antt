@@ -1,4 +1,4 @@
-use Rattle.std.proofs.Common.{◌≡◌, ◌++◌, rules, ◌∙◌, sym, ap, drop, ◌+◌, List}
+use Rattle.std.proofs.Common.{◌∙◌, sym, ap, drop, ◌+◌, List}
 use Rattle.sb_term.specs.Asks.{run, each_onto}
 use Rattle.sb_term.specs.AskLaws.{each_goes_on}
 use Rattle.sb_top.specs.Asking.{assume}

@@ -1,7 +1,7 @@
 use Rattle.std.proofs.Common.{◌≡◌, drop, None}
 use Rattle.sb_term.specs.Asks.{run, each_onto}
 use Rattle.sb_top.specs.Asking.{assume}
-use Rattle.sb_top.specs.Splits.{ways, in_ways}
+use Rattle.sb_top.specs.Splits.{in_ways}
 use Rattle.sb_top.proofs.splits.in_ways.Given as goal
 
 abbrev pub invariant-loop-way : goal.invariant-loop-way

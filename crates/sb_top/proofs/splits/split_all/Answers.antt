@@ -1,4 +1,4 @@
-use Rattle.std.proofs.Common.{◌≡◌, ◌++◌, rules, ◌∙◌, sym, ap, drop, ◌+◌, List}
+use Rattle.std.proofs.Common.{◌++◌, ◌∙◌, ap, drop, ◌+◌, List}
 use Rattle.sb_term.specs.Asks.{run}
 use Rattle.sb_top.specs.declared.picture.Picture.{Picture}
 use Rattle.sb_top.specs.Splits.{split_all, sides}

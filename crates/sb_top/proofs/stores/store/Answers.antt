@@ -1,10 +1,8 @@
 use Rattle.std.proofs.Common.{List, ◌∙◌, sym, ap, slice_get}
 use Rattle.sb_top.specs.declared.picture.Value.{Value}
-use Rattle.sb_term.specs.Asks.{Ended, run}
-use Rattle.sb_top.specs.Stores.{Judged, judged, store_by, target_by}
+use Rattle.sb_top.specs.Stores.{target_by}
 use Rattle.sb_top.specs.Pictures.{number_at}
-use Rattle.sb_top.specs.Ends.{EndsWith}
-use Rattle.sb_top.proofs.Targets.{store_by-some, store_by-known}
+use Rattle.sb_top.proofs.Targets.{store_by-known}
 use Rattle.sb_top.proofs.stores.store.Goals as goal
 
 pub returns-in-Some-clause-rule : goal.returns-in-Some-clause-rule

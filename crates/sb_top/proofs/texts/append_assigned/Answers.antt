@@ -1,7 +1,4 @@
-use Rattle.std.proofs.Common.{◌≡◌, ◌++◌, codes, append_assoc, ◌∙◌}
-use Rattle.std.specs.Fmt.{decimal}
-use Rattle.std.proofs.lemmas.Result.{on_ok_weaker}
-use Rattle.sb_top.specs.Texts as text
+use Rattle.std.proofs.Common.{◌∙◌}
 use Rattle.sb_top.proofs.Appending.{extended_thrice, numbered}
 use Rattle.sb_top.proofs.texts.append_assigned.Goals as goal
 

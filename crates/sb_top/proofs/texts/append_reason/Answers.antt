@@ -1,5 +1,4 @@
-use Rattle.std.proofs.Common.{◌≡◌, ◌++◌, codes}
-use Rattle.sb_top.specs.Texts as text
+use Rattle.std.proofs.Common.{codes}
 use Rattle.sb_top.proofs.Appending.{extended, extended_thrice}
 use Rattle.sb_top.proofs.texts.append_reason.Goals as goal
 

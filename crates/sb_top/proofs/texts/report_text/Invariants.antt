@@ -4,4 +4,4 @@ use Rattle.sb_top.proofs.texts.report_text.Given as goal
 
 abbrev pub invariant-loop-report : goal.invariant-loop-report
 invariant-loop-report l =
-    l.out.items ++ text.functions l.file l.names.texts (drop l.report-index l.reports) ≡ text.functions l.file l.names.texts l.reports
+    l.out.items ++ text.functions l.files l.names.texts (drop l.report-index l.reports) ≡ text.functions l.files l.names.texts l.reports

@@ -1,6 +1,6 @@
 use Rattle.std.proofs.Common.{◌≡◌, [], drop, None}
 use Rattle.sb_term.specs.Asks.{run}
-use Rattle.sb_top.specs.Walks.{walked, store_all, report}
+use Rattle.sb_top.specs.Walks.{walked, store_all}
 use Rattle.sb_top.proofs.walks.store_all.Given as goal
 
 abbrev pub invariant-loop-picture : goal.invariant-loop-picture

@@ -1,4 +1,4 @@
-use Rattle.std.proofs.Common.{sym, ◌∙◌, arith}
+use Rattle.std.proofs.Common.{sym, ◌∙◌}
 use Rattle.sb_top.proofs.FoundSteps.{found_hit, found_miss, found_end}
 use Rattle.sb_top.proofs.words.found.Goals as goal
 

@@ -1,0 +1,154 @@
+-- over a library that tells its content, the words of a call have one answer
+use Rattle.std.proofs.Common.{◌≡◌, ◌-◌, inl, inr, ℕ, List, [], ◌∷◌, ◌++◌, Option, Some, None, length, max, slice_get, refl, sym, ap, ◌∙◌, subst}
+use Rattle.sb_base.specs.Names.{IsDistinct}
+use Rattle.sb_base.specs.declared.refusals.Place.{Place}
+use Rattle.sb_base.specs.declared.tokens.Token.{Token}
+use Rattle.sb_parse.proofs.Places.{one_place, none_is_refused}
+use Rattle.sb_prep.specs.Ending.{Ending, Ended, Refused as RefusedAt}
+use Rattle.sb_prep.specs.Unit.{IsUnit}
+use Rattle.sb_term.specs.AnswerOf.{answer_of}
+use Rattle.sb_top.specs.declared.lexeme.Piece.{Piece}
+use Rattle.sb_top.specs.declared.status.Status.{Status}
+use Rattle.sb_top.specs.Syntax.{FunctionTree}
+use Rattle.sb_top.specs.Grammar.{IsFile}
+use Rattle.sb_top.specs.Walks.{report}
+use Rattle.sb_top.specs.Texts.{refusal, report_text}
+use Rattle.sb_top.specs.Words.{files_of_words}
+use Rattle.sb_top.specs.Lexemes.{pieces_of}
+use Rattle.sb_top.specs.Sets.{most_names, AreUnits, AreRead, IsRefusedAt, IsUnreadAt, SameOutcome, UnitsAreFunctional}
+use Rattle.sb_top.specs.Sets.AreUnits.{none, next, refused}
+use Rattle.sb_top.specs.Sets.AreRead.{ended, read}
+use Rattle.sb_top.specs.Sets.IsUnreadAt.{here, behind}
+use Rattle.sb_top.specs.Outcomes.{IsReported, IsUnread, IsOutcome, IsEndOf, IsAnswer, HasOneOutcome, status_of, not_built_yet}
+use Rattle.sb_top.proofs.FileLaws.{one_tree}
+
+abbrev Same : Status → Status → List ℕ → List ℕ → Type 0
+Same status other text more = (status ≡ other) × (text ≡ more)
+
+no_texts_are_distinct : IsDistinct []
+no_texts_are_distinct i j text is at = absurd (cc is)
+
+-- ---- units that are whole have one set of functions, or are refused at one place
+
+one_read : (texts : List (List ℕ)) (us vs : List (List Token)) (fs gs : List FunctionTree) → AreRead texts us fs → AreRead texts vs gs → us ≡ vs → fs ≡ gs
+one_read texts _ _ _ _ ended ended e = refl
+one_read texts _ _ _ _ ended (read tokens units gs more is are) e = absurd (cc e)
+one_read texts _ _ _ _ (read tokens units fs more is are) ended e = absurd (cc e)
+one_read texts _ _ _ _ (read tokens units fs more is are) (read others rest gs other at there) e =
+    let head : tokens ≡ others = cc e in
+    let tail : units ≡ rest = cc e in
+    let first : fs ≡ gs = one_tree (pieces_of texts tokens) fs gs is (subst (λ z. IsFile (pieces_of texts z) gs) (sym head) at) in
+    let second : more ≡ other = one_read texts units rest more other are there tail in
+    ap (λ z. z ++ more) first ∙ ap (λ z. gs ++ z) second
+
+-- a list of pieces is refused at one piece
+one_refused : (pieces : List Piece) (at other : Piece) → IsRefusedAt pieces at → IsRefusedAt pieces other → at ≡ other
+one_refused pieces at other one two =
+    let place : one.left ≡ two.left = one_place IsFile pieces one.left two.left one.refused two.refused in
+    let there : slice_get pieces (length pieces - max one.left 1) ≡ Some other = subst (λ z. slice_get pieces (length pieces - max z 1) ≡ Some other) (sym place) two.stands in
+    cc (one.stands, there)
+
+one_unread : (texts : List (List ℕ)) (us vs : List (List Token)) (place other : Place) → IsUnreadAt texts us place → IsUnreadAt texts vs other → us ≡ vs → place ≡ other
+one_unread texts _ _ _ _ (here tokens units at is) (here others rest at' is') e =
+    let head : tokens ≡ others = cc e in
+    ap (λ z. z.place) (one_refused (pieces_of texts tokens) at at' is (subst (λ z. IsRefusedAt (pieces_of texts z) at') (sym head) is'))
+one_unread texts _ _ _ _ (here tokens units at is) (behind others rest gs place file there) e =
+    let head : tokens ≡ others = cc e in
+    absurd (none_is_refused IsFile (pieces_of texts tokens) is.left gs is.refused (subst (λ z. IsFile (pieces_of texts z) gs) (sym head) file))
+one_unread texts _ _ _ _ (behind tokens units fs place file there) (here others rest at is) e =
+    let head : tokens ≡ others = cc e in
+    absurd (none_is_refused IsFile (pieces_of texts others) is.left fs is.refused (subst (λ z. IsFile (pieces_of texts z) fs) head file))
+one_unread texts _ _ _ _ (behind tokens units fs place file there) (behind others rest gs other at is) e =
+    let tail : units ≡ rest = cc e in one_unread texts units rest place other there is tail
+
+never_both : (texts : List (List ℕ)) (us vs : List (List Token)) (fs : List FunctionTree) (place : Place) → AreRead texts us fs → IsUnreadAt texts vs place → us ≡ vs → ⊥
+never_both texts _ _ _ _ ended (here others rest at is) e = cc e
+never_both texts _ _ _ _ ended (behind others rest gs place file there) e = cc e
+never_both texts _ _ _ _ (read tokens units fs more file are) (here others rest at is) e =
+    let head : tokens ≡ others = cc e in
+    none_is_refused IsFile (pieces_of texts others) is.left fs is.refused (subst (λ z. IsFile (pieces_of texts z) fs) head file)
+never_both texts _ _ _ _ (read tokens units fs more file are) (behind others rest gs place at there) e =
+    let tail : units ≡ rest = cc e in never_both texts units rest more place are there tail
+
+-- ---- the units of a told library, where each has one outcome
+
+moved : (held : Option (List ℕ → Option (List ℕ))) (limit : ℕ) (name name' : List ℕ) (texts texts' files files' later last : List (List ℕ)) (ts : List Token) (end : Ending) → name' ≡ name → texts' ≡ texts → files' ≡ files
+    → IsUnit held limit name' texts' files' ts later last end → IsUnit held limit name texts files ts later last end
+moved held limit name name' texts texts' files files' later last ts end n t f is =
+    subst (λ z. IsUnit held limit z texts files ts later last end) n (subst (λ z. IsUnit held limit name' z files ts later last end) t (subst (λ z. IsUnit held limit name' texts' z ts later last end) f is))
+
+-- two readings of one list of files that begin with the same tables
+same_units : (held : List ℕ → Option (List ℕ)) (limit : ℕ) → UnitsAreFunctional held limit
+    → (texts files names later last : List (List ℕ)) (us : List (List Token)) (end : Ending) (texts' files' names' more other : List (List ℕ)) (vs : List (List Token)) (ending : Ending)
+    → AreUnits (Some held) limit texts files names us later last end → AreUnits (Some held) limit texts' files' names' vs more other ending
+    → texts' ≡ texts → files' ≡ files → names' ≡ names → IsDistinct texts → IsDistinct files → SameOutcome us vs later more last other end ending
+same_units held limit law _ _ _ _ _ _ _ _ _ _ _ _ _ _ (none texts files) (none texts' files') t f n dt df = record { given = refl; texts = t; files = f; ends = refl }
+same_units held limit law _ _ _ _ _ _ _ _ _ _ _ _ _ _ (none texts files) (next texts' files' middle' between' later' last' names' name' tokens' units' end' is' are') t f n dt df = absurd (cc n)
+same_units held limit law _ _ _ _ _ _ _ _ _ _ _ _ _ _ (none texts files) (refused texts' files' later' last' names' name' tokens' number' place' is') t f n dt df = absurd (cc n)
+same_units held limit law _ _ _ _ _ _ _ _ _ _ _ _ _ _ (next texts files middle between later last names name tokens us end is are) (none texts' files') t f n dt df = absurd (cc n)
+same_units held limit law _ _ _ _ _ _ _ _ _ _ _ _ _ _ (next texts files middle between later last names name tokens us end is are) (next texts' files' middle' between' later' last' names' name' tokens' vs end' is' are') t f n dt df =
+    let head : name' ≡ name = cc n in
+    let tail : names' ≡ names = cc n in
+    let again = moved (Some held) limit name name' texts texts' files files' middle' between' tokens' Ended head t f is' in
+    let unit : SameOutcome tokens tokens' middle middle' between between' Ended Ended = law.one name texts files middle middle' between between' tokens tokens' Ended Ended dt df is again in
+    let apart : IsDistinct middle × IsDistinct between = law.distinct name texts files middle between tokens Ended dt df is in
+    let rest : SameOutcome us vs later later' last last' end end' = same_units held limit law middle between names later last us end middle' between' names' later' last' vs end' are are' unit.texts unit.files tail apart.0 apart.1 in
+    record { given = ap (λ z. z ∷ vs) unit.given ∙ ap (λ z. tokens ∷ z) rest.given; texts = rest.texts; files = rest.files; ends = rest.ends }
+same_units held limit law _ _ _ _ _ _ _ _ _ _ _ _ _ _ (next texts files middle between later last names name tokens us end is are) (refused texts' files' later' last' names' name' tokens' number' place' is') t f n dt df =
+    let head : name' ≡ name = cc n in
+    let again = moved (Some held) limit name name' texts texts' files files' later' last' tokens' (RefusedAt number' place') head t f is' in
+    let unit : SameOutcome tokens tokens' middle later' between last' Ended (RefusedAt number' place') = law.one name texts files middle later' between last' tokens tokens' Ended (RefusedAt number' place') dt df is again in
+    absurd (cc unit.ends)
+same_units held limit law _ _ _ _ _ _ _ _ _ _ _ _ _ _ (refused texts files later last names name tokens number place is) (none texts' files') t f n dt df = absurd (cc n)
+same_units held limit law _ _ _ _ _ _ _ _ _ _ _ _ _ _ (refused texts files later last names name tokens number place is) (next texts' files' middle' between' later' last' names' name' tokens' vs end' is' are') t f n dt df =
+    let head : name' ≡ name = cc n in
+    let again = moved (Some held) limit name name' texts texts' files files' middle' between' tokens' Ended head t f is' in
+    let unit : SameOutcome tokens tokens' later middle' last between' (RefusedAt number place) Ended = law.one name texts files later middle' last between' tokens tokens' (RefusedAt number place) Ended dt df is again in
+    absurd (cc unit.ends)
+same_units held limit law _ _ _ _ _ _ _ _ _ _ _ _ _ _ (refused texts files later last names name tokens number place is) (refused texts' files' later' last' names' name' tokens' number' place' is') t f n dt df =
+    let head : name' ≡ name = cc n in
+    let again = moved (Some held) limit name name' texts texts' files files' later' last' tokens' (RefusedAt number' place') head t f is' in
+    let unit : SameOutcome tokens tokens' later later' last last' (RefusedAt number place) (RefusedAt number' place') =
+    law.one name texts files later later' last last' tokens tokens' (RefusedAt number place) (RefusedAt number' place') dt df is again in
+    record { given = refl; texts = unit.texts; files = unit.files; ends = unit.ends }
+
+-- ---- one outcome
+
+reported_once : (texts files : List (List ℕ)) (us : List (List Token)) (status other : Status) (text more : List ℕ) → IsReported texts files us status text → IsReported texts files us other more → Same status other text more
+reported_once texts files us status other text more one two =
+    let functions : one.functions ≡ two.functions = one_read texts us us one.functions two.functions one.are_read two.are_read refl in (
+      one.status_is ∙ ap (λ z. status_of (report answer_of z)) functions ∙ sym two.status_is,
+      one.text_is ∙ ap (λ z. report_text files texts (report answer_of z)) functions ∙ sym two.text_is,
+    )
+
+unread_once : (texts files : List (List ℕ)) (us : List (List Token)) (status other : Status) (text more : List ℕ) → IsUnread texts files us status text → IsUnread texts files us other more → Same status other text more
+unread_once texts files us status other text more one two =
+    let place : one.place ≡ two.place = one_unread texts us us one.place two.place one.is_unread two.is_unread refl in (
+      one.status_is ∙ sym two.status_is,
+      one.text_is ∙ ap (λ z. refusal files z not_built_yet) place ∙ sym two.text_is,
+    )
+
+end_once : (texts files : List (List ℕ)) (us : List (List Token)) (end : Ending) (status other : Status) (text more : List ℕ) → IsEndOf texts files us end status text → IsEndOf texts files us end other more → Same status other text more
+end_once texts files us (RefusedAt number place) status other text more one two = (one.0 ∙ sym two.0, one.1 ∙ sym two.1)
+end_once texts files us Ended status other text more (inl one) (inl two) = reported_once texts files us status other text more one two
+end_once texts files us Ended status other text more (inl one) (inr two) = absurd (never_both texts us us one.functions two.place one.are_read two.is_unread refl)
+end_once texts files us Ended status other text more (inr one) (inl two) = absurd (never_both texts us us two.functions one.place two.are_read one.is_unread refl)
+end_once texts files us Ended status other text more (inr one) (inr two) = unread_once texts files us status other text more one two
+
+outcome_once : (held : List ℕ → Option (List ℕ)) → UnitsAreFunctional held most_names → (names : List (List ℕ)) (status other : Status) (text more : List ℕ) → IsOutcome (Some held) names status text → IsOutcome (Some held) names other more → Same status other text more
+outcome_once held law names status other text more one two =
+    let same : SameOutcome one.units two.units one.texts two.texts one.files two.files one.end two.end =
+    same_units held most_names law [] [] names one.texts one.files one.units one.end [] [] names two.texts two.files two.units two.end one.are_units two.are_units refl refl refl no_texts_are_distinct no_texts_are_distinct in
+    end_once one.texts one.files one.units one.end status other text more one.is_end
+    (subst (λ z. IsEndOf z one.files one.units one.end other more) same.texts
+    (subst (λ z. IsEndOf two.texts z one.units one.end other more) same.files
+    (subst (λ z. IsEndOf two.texts two.files z one.end other more) same.given
+    (subst (λ z. IsEndOf two.texts two.files two.units z other more) same.ends two.is_end))))
+
+-- given that each unit has one outcome
+pub one_outcome : (held : List ℕ → Option (List ℕ)) (words : List (List ℕ)) → UnitsAreFunctional held most_names → HasOneOutcome held words
+one_outcome held words law status other text more one two = go (files_of_words words) one two
+  where
+    go : (asked : Option (List (List ℕ))) → IsAnswer (Some held) asked status text → IsAnswer (Some held) asked other more → Same status other text more
+    go None one two = (one.0 ∙ sym two.0, one.1 ∙ sym two.1)
+    go (Some names) one two = outcome_once held law names status other text more one two

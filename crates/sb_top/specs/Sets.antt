@@ -1,0 +1,100 @@
+-- the set of functions that the files of a command line define: the units of the files, and what the grammar reads of them
+use Rattle.std.specs.Prelude.{◌≡◌, ℕ, ◌-◌, ◌^◌, ◌≤◌, List, [], ◌∷◌, ◌++◌, length, max, slice_get, Option, Some, map, Vec, Result, Ok, Err}
+use Rattle.sb_base.specs.declared.refusals.Place.{Place}
+use Rattle.sb_base.specs.declared.tokens.Token.{Token}
+use Rattle.sb_base.specs.Names.{IsDistinct}
+use Rattle.sb_base.specs.Outside.{Rose}
+use Rattle.sb_parse.specs.Read.{IsRefused}
+use Rattle.sb_prep.specs.Ending.{Ending, Ended, Refused}
+use Rattle.sb_prep.specs.Unit.{IsUnit}
+use Rattle.sb_prep.specs.declared.fault.UnitFault.{UnitFault}
+use Rattle.sb_prep.specs.declared.fault.UnitFault.TheVariants as fault
+use Rattle.sb_top.specs.declared.lexeme.Piece.{Piece}
+use Rattle.sb_top.specs.declared.sets.SetFault.{SetFault}
+use Rattle.sb_top.specs.declared.sets.SetFault.TheVariants.{Unread, Memory}
+use Rattle.sb_top.specs.declared.syntax.Function.{Function}
+use Rattle.sb_top.specs.Syntax.{FunctionTree}
+use Rattle.sb_top.specs.Trees.{trees}
+use Rattle.sb_top.specs.Grammar.{IsFile}
+use Rattle.sb_top.specs.Lexemes.{pieces_of}
+
+-- a run has at most so many names
+abbrev pub most_names : ℕ
+most_names = 2 ^ 32 - 1
+
+-- The tokens of the units of some files, in their order, with the tables of names and of files before and after them, and how they end.
+-- The tables go through the units; the first unit that is refused ends them. `held`: what the library holds. `limit`: of the table of names
+pub data AreUnits (held : Option (List ℕ → Option (List ℕ))) (limit : ℕ) : List (List ℕ) → List (List ℕ) → List (List ℕ) → List (List Token) → List (List ℕ) → List (List ℕ) → Ending → Type 0 where
+  none : (texts files : List (List ℕ)) → AreUnits held limit texts files [] [] texts files Ended
+  next : (texts files middle between later last names : List (List ℕ)) (name : List ℕ) (tokens : List Token) (units : List (List Token)) (end : Ending)
+      → IsUnit held limit name texts files tokens middle between Ended → AreUnits held limit middle between names units later last end
+      → AreUnits held limit texts files (name ∷ names) (tokens ∷ units) later last end
+  refused : (texts files later last names : List (List ℕ)) (name : List ℕ) (tokens : List Token) (number : ℕ) (place : Place)
+      → IsUnit held limit name texts files tokens later last (Refused number place)
+      → AreUnits held limit texts files (name ∷ names) [] later last (Refused number place)
+
+-- the tokens of units as lists
+abbrev pub tokens_of : {Z : Type 0} → List (Vec Token Z) → List (List Token)
+tokens_of units = map (λ unit. unit.items) units
+
+-- the functions of units, in order: the tokens of each are the text of some functions. Functions of different units may have one name
+pub data AreRead (texts : List (List ℕ)) : List (List Token) → List FunctionTree → Type 0 where
+  ended : AreRead texts [] []
+  read : (tokens : List Token) (units : List (List Token)) (functions more : List FunctionTree)
+      → IsFile (pieces_of texts tokens) functions → AreRead texts units more → AreRead texts (tokens ∷ units) (functions ++ more)
+
+-- a list of pieces is refused at this piece: the first that no text goes on with, or the last where the list ends too early
+pub record IsRefusedAt (pieces : List Piece) (at : Piece) : Type 0 where
+  pub left : ℕ
+  pub refused : IsRefused IsFile pieces left
+  pub stands : slice_get pieces (length pieces - max left 1) ≡ Some at
+
+-- the place where the first of the units is refused that is no text
+pub data IsUnreadAt (texts : List (List ℕ)) : List (List Token) → Place → Type 0 where
+  here : (tokens : List Token) (units : List (List Token)) (at : Piece) → IsRefusedAt (pieces_of texts tokens) at → IsUnreadAt texts (tokens ∷ units) at.place
+  behind : (tokens : List Token) (units : List (List Token)) (functions : List FunctionTree) (place : Place)
+      → IsFile (pieces_of texts tokens) functions → IsUnreadAt texts units place → IsUnreadAt texts (tokens ∷ units) place
+
+-- ---- one outcome
+
+-- two outcomes are one: what is given, the tables of names and of files, and the ending
+pub record SameOutcome {A : Type 0} (one two : A) (later more last other : List (List ℕ)) (end ending : Ending) : Type 0 where
+  pub given : two ≡ one
+  pub texts : more ≡ later
+  pub files : other ≡ last
+  pub ends : ending ≡ end
+
+-- A unit of a library that tells its content has one outcome, and where the texts of each table differ before it, they do so after it
+pub record UnitsAreFunctional (held : List ℕ → Option (List ℕ)) (limit : ℕ) : Type 0 where
+  pub one : (name : List ℕ) (texts files later more last other : List (List ℕ)) (ts us : List Token) (end ending : Ending) → IsDistinct texts → IsDistinct files
+      → IsUnit (Some held) limit name texts files ts later last end → IsUnit (Some held) limit name texts files us more other ending → SameOutcome ts us later more last other end ending
+  pub distinct : (name : List ℕ) (texts files later last : List (List ℕ)) (ts : List Token) (end : Ending) → IsDistinct texts → IsDistinct files
+      → IsUnit (Some held) limit name texts files ts later last end → IsDistinct later × IsDistinct last
+
+-- ---- what code answers
+
+-- the units are whole or one is refused, or reading failed, or memory ran out
+abbrev pub EndAs : {Y Z : Type 0} → Option (List ℕ → Option (List ℕ)) → ℕ → List (List ℕ) → List (List ℕ) → List (List ℕ) → List (List ℕ) → List (List ℕ) → Result (Vec (Vec Token Y) Z) UnitFault → Type 0
+EndAs held limit texts files names later last (Ok units) = AreUnits held limit texts files names (tokens_of units.items) later last Ended
+EndAs held limit texts files names later last (Err (fault.Refused r)) = (units : List (List Token)) × (ends : List (List ℕ)) × AreUnits held limit texts files names units ends last (Refused r.number r.place)
+EndAs held limit texts files names later last (Err fault.Read) = Unit {0}
+EndAs held limit texts files names later last (Err fault.Memory) = Unit {0}
+
+-- reading failed only where the count of failures rose, which never falls; each other answer leaves the count
+abbrev pub HasUnitCause : {A : Type 0} → ℕ → ℕ → Result A UnitFault → Type 0
+HasUnitCause before now (Ok a) = now ≡ before
+HasUnitCause before now (Err fault.Read) = Rose before now × (before ≤ now)
+HasUnitCause before now (Err (fault.Refused r)) = now ≡ before
+HasUnitCause before now (Err fault.Memory) = now ≡ before
+
+-- these pieces were read, or are refused at this place, or memory ran out
+abbrev pub UnitReadAs : {Z : Type 0} → List Piece → Result (Vec Function Z) SetFault → Type 0
+UnitReadAs pieces (Ok v) = IsFile pieces (trees v.items)
+UnitReadAs pieces (Err (Unread place)) = (at : Piece) × IsRefusedAt pieces at × (place ≡ at.place)
+UnitReadAs pieces (Err Memory) = Unit {0}
+
+-- these units were read, or the first that is no text is refused at this place, or memory ran out
+abbrev pub ReadAs : {Z : Type 0} → List (List ℕ) → List (List Token) → Result (Vec Function Z) SetFault → Type 0
+ReadAs texts units (Ok v) = AreRead texts units (trees v.items)
+ReadAs texts units (Err (Unread place)) = IsUnreadAt texts units place
+ReadAs texts units (Err Memory) = Unit {0}
