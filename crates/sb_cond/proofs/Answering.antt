@@ -64,7 +64,7 @@ some_there [] k within = absurd (omega arith)
 some_there (x ∷ xs) zero within = (x, refl)
 some_there (x ∷ xs) (suc k) within = some_there xs k (omega arith)
 
-one_list : (texts : List (List ℕ)) (line : List PpToken) (xs ys : List ConditionToken) → AreTokens texts line xs → AreTokens texts line ys → xs ≡ ys
+pub one_list : (texts : List (List ℕ)) (line : List PpToken) (xs ys : List ConditionToken) → AreTokens texts line xs → AreTokens texts line ys → xs ≡ ys
 one_list texts line xs ys a b = same_at_each xs ys (a.count ∙ sym b.count) (λ k x y at_x at_y.
     let within = slice_get_within xs k x at_x in
     let piece : (p : PpToken) × (slice_get line k ≡ Some p) = some_there line k (omega (arith, a.count, within)) in

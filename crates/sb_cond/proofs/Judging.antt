@@ -1,5 +1,5 @@
 -- What the reader of conditions gives is the truth of a line, or the position at which it is refused; and the tokens of a line, piece by piece.
-use Rattle.std.proofs.Common.{◌≡◌, ◌-◌, ℕ, max, Bool, false, List, [], ◌∷◌, ◌++◌, length, slice_get, get_or, ◌<◌, Some, Result, Ok, Err, unwrap_or, IfOk, IfErr, refl, sym, ap, ◌∙◌, subst, subst₂, append-nil, inl, inr}
+use Rattle.std.proofs.Common.{◌≡◌, ◌-◌, ℕ, Bool, false, List, [], ◌∷◌, ◌++◌, length, slice_get, get_or, ◌<◌, Some, Result, Ok, Err, unwrap_or, IfOk, IfErr, refl, sym, ap, ◌∙◌, subst, subst₂, append-nil, inl, inr, arith, length-append}
 use Rattle.std.proofs.lemmas.Option.{slice_get-get_or}
 use Rattle.sb_base.proofs.Texts.{push_places}
 use Rattle.sb_lex.specs.declared.piece.PpToken.{PpToken}
@@ -48,8 +48,12 @@ only_truth ts b t =
     let all : reader ts ≡ done t.operand [] = ap reader (sym (append-nil ts)) ∙ reads.complete ts t.operand [] t.is refl in
     ap (judged (length ts)) all ∙ ap (λ v. truth_of v [] (length ts)) t.valued ∙ ap Ok (sym t.truth)
 
+-- how much stands before what is left
+pub size : (front bad ts : List ConditionToken) → ts ≡ front ++ bad → length ts - length bad ≡ length front
+size front bad ts split = omega (arith, ap length split, length-append front bad)
+
 -- what stands behind a condition is refused there, unless the condition has no value
-fault_first : (v : Result ℕ ℕ) (t : ConditionToken) (rest : List ConditionToken) (count : ℕ) → truth_of v (t ∷ rest) count ≡ Err (unwrap_or (fault_of v) (count - max (length (t ∷ rest)) 1))
+fault_first : (v : Result ℕ ℕ) (t : ConditionToken) (rest : List ConditionToken) (count : ℕ) → truth_of v (t ∷ rest) count ≡ Err (unwrap_or (fault_of v) (count - length (t ∷ rest)))
 fault_first (Ok n) t rest count = refl
 fault_first (Err at) t rest count = refl
 
@@ -65,14 +69,13 @@ is_refused_at ts at h = go (reader ts) refl h
     go (done a (t ∷ rest)) e h =
         let u = reads.sound ts a (t ∷ rest) e in
         let behind : whole 0 reader ts ≡ stop 0 (length (t ∷ rest)) = ap (ended 0) e in
-        let same : Err (unwrap_or (fault_of a.value) (length ts - max (length (t ∷ rest)) 1)) ≡ Err at = sym (fault_first a.value t rest (length ts)) ∙ h in
-        subst (IsRefusedAt ts) (cc same) (no_condition u.front (t ∷ rest) (fault_of a.value) u.split (whole_refused reads 0 ts 0 (length (t ∷ rest)) behind) (whole_fault u.front a u.is))
+        let same : Err (unwrap_or (fault_of a.value) (length ts - length (t ∷ rest))) ≡ Err at = sym (fault_first a.value t rest (length ts)) ∙ h in
+        subst (IsRefusedAt ts) (cc (same, size u.front (t ∷ rest) ts u.split)) (no_condition u.front (t ∷ rest) (fault_of a.value) u.split (whole_refused reads 0 ts 0 (length (t ∷ rest)) behind) (whole_fault u.front a u.is))
     go (stop n left) e h =
         let c : CutAt 200 _ ts n left = cut_off 200 ts n left e in
-        let same : Err (unwrap_or (fault_in n) (length ts - max left 1)) ≡ Err at = h in
-        subst (IsRefusedAt ts) (cc same)
-        (subst (λ l. IsRefusedAt ts (unwrap_or (fault_in n) (length ts - max l 1))) (sym c.left_is)
-        (no_condition c.front c.bad (fault_in n) c.split (subst (IsRefused IsCondition ts) c.left_is (refused reads ts n left e)) (cut c.front (fault_in n) c.is)))
+        let same : Err (unwrap_or (fault_in n) (length ts - left)) ≡ Err at = h in
+        subst (IsRefusedAt ts) (cc (same, c.left_is, size c.front c.bad ts c.split))
+        (no_condition c.front c.bad (fault_in n) c.split (subst (IsRefused IsCondition ts) c.left_is (refused reads ts n left e)) (cut c.front (fault_in n) c.is))
 
 pub judged_ok : (ts : List ConditionToken) (r : Result Bool ℕ) → r ≡ judged (length ts) (reader ts) → IfOk r (HasTruth ts)
 judged_ok ts (Ok b) h = has_truth ts b (sym h)

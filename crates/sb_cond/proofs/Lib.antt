@@ -1,5 +1,8 @@
 pub mod Answering
 pub mod Cutting
+pub mod Fronts
+pub mod Faults
+pub mod CutReading
 pub mod Judging
 pub mod Laws
 pub mod Loops

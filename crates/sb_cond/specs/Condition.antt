@@ -1,5 +1,5 @@
 -- Whether the condition of a line holds (C99 6.10.1), and where it is refused.
-use Rattle.std.specs.Prelude.{◌≡◌, ℕ, ◌-◌, ◌^◌, max, Bool, false, ◌||◌, ◌⊎◌, List, [], ◌∷◌, ◌++◌, length, slice_get, Option, Some, None, Result, Ok, Err, unwrap_or, if◌then◌else◌, nat_eq, nat_le, codes}
+use Rattle.std.specs.Prelude.{◌≡◌, ℕ, ◌-◌, ◌^◌, Bool, false, ◌||◌, ◌⊎◌, List, [], ◌∷◌, ◌++◌, length, slice_get, Option, Some, None, Result, Ok, Err, unwrap_or, if◌then◌else◌, nat_eq, nat_le, codes}
 use Rattle.std.specs.List.{list_any}
 use Rattle.std.specs.Option.{option_map}
 use Rattle.std.specs.Str.{bytes_eq}
@@ -110,26 +110,26 @@ pub data HasFault : List ConditionToken → Option ℕ → Type 0 where
   cut : (xs : List ConditionToken) (f : Option ℕ) → IsCut 200 Sequence xs f → HasFault xs f
 
 -- The position at which a line is refused. The tokens are a condition, and the operator there is the first without a value. Or they are none: then it is that of the first such operator
--- before the token at which no condition goes on so, or else of that token, the last one where all are read.
+-- before the token at which no condition goes on so, or else of that token, behind the last one where all are read.
 pub data IsRefusedAt (tokens : List ConditionToken) : ℕ → Type 0 where
   no_value : (a : Operand) (at : ℕ) → IsCondition tokens a → a.value ≡ Err at → IsRefusedAt tokens at
   no_condition : (front bad : List ConditionToken) (fault : Option ℕ) → tokens ≡ front ++ bad → IsRefused IsCondition tokens (length bad) → HasFault front fault
-      → IsRefusedAt tokens (unwrap_or fault (length tokens - max (length bad) 1))
+      → IsRefusedAt tokens (unwrap_or fault (length front))
 
 -- ---- by what the reader gives
 
 abbrev pub truth_of : Result ℕ ℕ → List ConditionToken → ℕ → Result Bool ℕ
 truth_of (Err at) rest count = Err at
 truth_of (Ok n) [] count = Ok (is_true n)
-truth_of (Ok n) (t ∷ rest) count = Err (count - max (length (t ∷ rest)) 1)
+truth_of (Ok n) (t ∷ rest) count = Err (count - length (t ∷ rest))
 
 abbrev pub judged : ℕ → Outcome ConditionToken Operand → Result Bool ℕ
 judged count (done a rest) = truth_of a.value rest count
-judged count (stop n left) = Err (unwrap_or (fault_in n) (count - max left 1))
+judged count (stop n left) = Err (unwrap_or (fault_in n) (count - left))
 
 -- ---- lines
 
--- the place of a piece, or that of the end of an empty line
+-- the place of a piece, or behind the last one that of the end
 abbrev pub place_in : List PpToken → Place → ℕ → Place
 place_in line end at = unwrap_or (option_map (λ piece. piece.place) (slice_get line at)) end
 
@@ -157,3 +157,9 @@ abbrev pub IsAnswer : Bool → Result Bool Stop → Type 0
 IsAnswer holds (Ok answer) = answer ≡ holds
 IsAnswer holds (Err (Refused refusal)) = ⊥
 IsAnswer holds (Err Memory) = Unit {0}
+
+-- what a line that is refused so is answered by, unless memory ran out
+abbrev pub IsRefusal : Refusal → Result Bool Stop → Type 0
+IsRefusal refusal (Ok answer) = ⊥
+IsRefusal refusal (Err (Refused other)) = other ≡ refusal
+IsRefusal refusal (Err Memory) = Unit {0}

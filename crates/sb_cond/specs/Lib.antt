@@ -4,3 +4,4 @@ pub mod Cut
 pub mod Expression
 pub mod Readers
 pub mod Reads
+pub mod Front

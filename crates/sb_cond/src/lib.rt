@@ -3,8 +3,10 @@
 
 mod arithmetic;
 mod expression;
+mod front;
 mod line;
 mod reading;
 mod sign;
 
+pub use front::front_refusal;
 pub use line::condition;

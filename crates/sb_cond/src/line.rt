@@ -1,6 +1,6 @@
 //! Whether the condition of `#if` and `#elif` holds (C99 6.10.1).
 
-ghost use Rattle.std.specs.Prelude.{◌≡◌, ◌-◌, ◌^◌, ◌<◌, max, false, IfOk, IfErr, Bool, length, slice_get, unwrap_or};
+ghost use Rattle.std.specs.Prelude.{◌≡◌, ◌-◌, ◌^◌, ◌<◌, false, IfOk, IfErr, Bool, length, slice_get, unwrap_or};
 ghost use Rattle.sb_cond.specs.Condition as spec;
 ghost use Rattle.sb_lex.specs.Values.{number_of};
 ghost use Rattle.sb_cond.specs.Readers.{below, sequence};
@@ -14,13 +14,13 @@ use sb_lex::{PpToken, character_value, number_value};
 use std::alloc::{AllocError, Global};
 
 /// The position at which a line is refused: that of an operator without a value, or else that of the token at which
-/// no expression goes on so, the last one where all are read.
-fn refused_at(fault: Option<u32>, count: usize, left: usize) -> usize
-    ensures at { result ≡ unwrap_or fault (count - max left 1) }
+/// no expression goes on so, behind the last one where all are read.
+pub(crate) fn refused_at(fault: Option<u32>, count: usize, left: usize) -> usize
+    ensures at { result ≡ unwrap_or fault (count - left) }
 {
     match fault {
         Some(at) => at as usize,
-        None => count.saturating_sub(left.max(1)),
+        None => count.saturating_sub(left),
     }
 }
 
@@ -34,7 +34,8 @@ fn truth_of(read: Read<Operand>, count: usize) -> Result<bool, usize>
     }
 }
 
-/// Whether a condition holds. An error is the position of the token at which it is refused, 0 where there is none.
+/// Whether a condition holds. An error is the position of the token at which it is refused, behind the last one where
+/// it ends too early.
 fn judge(tokens: &[ConditionToken]) -> Result<bool, usize>
     ensures holds { IfOk result (spec.HasTruth tokens.now) }
     ensures refused { IfErr result (spec.IsRefusedAt tokens.now) }
@@ -135,7 +136,7 @@ fn sign_in(names: &Names, piece: &PpToken) -> Sign
     }
 }
 
-fn tokens_of(
+pub(crate) fn tokens_of(
     alloc: Global,
     names: &Names,
     line: &[PpToken],
@@ -157,8 +158,8 @@ fn tokens_of(
 /// and `defined` are replaced: `&&`, `||` and `?:` leave out what they do not evaluate, the arithmetic is of 64 bits,
 /// signed or unsigned, and what overflows wraps.
 ///
-/// Refused as 26 where the pieces are no expression, at the first piece with which none goes on so or at the last one,
-/// and at an operator that is evaluated and has no value, whichever comes first; at `end` where there is no piece.
+/// Refused as 26 where the pieces are no expression, at the first piece with which none goes on so, or at `end` where they
+/// end too early, and at an operator that is evaluated and has no value, whichever comes first.
 /// Parentheses, operators before an operand and `?:` may be nested 200 deep, so that the stack is never the limit: a
 /// piece that would bring one level more is refused as one with which no expression goes on.
 pub fn condition(alloc: Global, names: &Names, line: &[PpToken], end: Place) -> Result<bool, Stop>
@@ -166,6 +167,7 @@ pub fn condition(alloc: Global, names: &Names, line: &[PpToken], end: Place) -> 
     ensures holds { IfOk result (spec.LineHolds names.now.texts line.now) }
     ensures fault { IfErr result (spec.IsLineFault names.now.texts line.now end) }
     ensures only { (holds : Bool) → spec.LineHolds names.now.texts line.now holds → spec.IsAnswer holds result }
+    ensures only_refused { (refusal : Refusal) → spec.LineRefused names.now.texts line.now end refusal → spec.IsRefusal refusal result }
 {
     let Ok(tokens) = tokens_of(alloc, names, line) else {
         return Err(Stop::Memory);
@@ -180,7 +182,7 @@ pub fn condition(alloc: Global, names: &Names, line: &[PpToken], end: Place) -> 
     }
 }
 
-fn place_in(line: &[PpToken], end: Place, at: usize) -> Place
+pub(crate) fn place_in(line: &[PpToken], end: Place, at: usize) -> Place
     ensures place { result ≡ spec.place_in line.now end at }
 {
     match line.get(at) {
@@ -190,10 +192,9 @@ fn place_in(line: &[PpToken], end: Place, at: usize) -> Place
 }
 
 #[cfg(test)]
-mod tests {
+pub(crate) mod made {
     use super::*;
     use sb_base::{Name, NamesFault};
-    use std::test::Fail;
 
     fn kind_of(text: &str) -> PpKind {
         match text.as_bytes().first() {
@@ -206,7 +207,11 @@ mod tests {
     }
 
     /// The words of a text as pieces, each at the column of its position.
-    fn pieces(alloc: Global, names: &mut Names, text: &str) -> Result<Vec<PpToken>, NamesFault> {
+    pub(crate) fn pieces(
+        alloc: Global,
+        names: &mut Names,
+        text: &str,
+    ) -> Result<Vec<PpToken>, NamesFault> {
         let mut line = Vec::new(alloc);
         let mut col = 0;
         for word in text.split(' ') {
@@ -234,6 +239,13 @@ mod tests {
             spaced: true,
         }
     }
+}
+
+#[cfg(test)]
+mod tests {
+    use super::made::pieces;
+    use super::*;
+    use std::test::Fail;
 
     fn refused(col: u32) -> Result<bool, Stop> {
         Err(Stop::Refused(Refusal {
@@ -274,8 +286,9 @@ mod tests {
             ("0 && 1 / 0 )", refused(5)),
             ("1 << - 1", refused(1)),
             ("1 , 2", refused(1)),
-            ("1 +", refused(1)),
-            ("( 1", refused(1)),
+            ("1 +", refused(99)),
+            ("( 1", refused(99)),
+            ("1 / 0 +", refused(1)),
             ("1 2", refused(1)),
             ("1 = 2", refused(1)),
             ("\"a\"", refused(0)),
@@ -314,9 +327,9 @@ mod tests {
         let end = Place {
             file: 0,
             line: 1,
-            col: 0,
+            col: 999,
         };
-        for (tail, col) in [("1", 200), ("( 1", 200), ("~ 1", 200), ("1 ? 2 : 3", 201)] {
+        for (tail, col) in [("1", 999), ("( 1", 200), ("~ 1", 200), ("1 ? 2 : 3", 201)] {
             let mut names = Names::new(rt.alloc(), 1000);
             let whole = format!(in rt.alloc(); "{text}{tail}")?;
             let line = pieces(rt.alloc(), &mut names, whole.as_str())?;

@@ -1,4 +1,4 @@
-use Rattle.std.proofs.Common.{ap, sym, ◌∙◌, ◌-◌, max, length, unwrap_or, Err}
+use Rattle.std.proofs.Common.{ap, sym, ◌∙◌, ◌-◌, length, unwrap_or, Err}
 use Rattle.sb_cond.specs.Condition.{judged}
 use Rattle.sb_cond.proofs.Judging.{judged_ok, judged_err}
 use Rattle.sb_cond.proofs.Stops.{fault_in_number}
@@ -13,5 +13,5 @@ returns-in-Ok-clause-refused c = judged_err c.args.tokens.now c.truth_of.result 
 pub returns-in-Err-clause-refused : goal.returns-in-Err-clause-refused
 returns-in-Err-clause-refused c =
     let count = length c.args.tokens.now in
-    let place = ap (λ f. unwrap_or f (count - max c.in-Err.stop.left 1)) (sym (fault_in_number c.in-Err.stop.fault)) in
+    let place = ap (λ f. unwrap_or f (count - c.in-Err.stop.left)) (sym (fault_in_number c.in-Err.stop.fault)) in
     judged_err c.args.tokens.now (Err c.refused_at.result) (ap Err (c.refused_at.ensures.at ∙ place) ∙ ap (judged count) (sym c.in-Err.ensures.read))
