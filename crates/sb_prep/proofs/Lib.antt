@@ -1,7 +1,9 @@
 pub mod Angles
 pub mod Beginnings
 pub mod ConditionsOnce
+pub mod Determined
 pub mod Directives
+pub mod DistinctTexts
 pub mod Held
 pub mod Inclusions
 pub mod Literals
@@ -14,6 +16,7 @@ pub mod Preparations
 pub mod Requests
 pub mod RulesOnce
 pub mod Seeking
+pub mod Settled
 pub mod Truths
 pub mod WholeUnit
 pub mod OneOutcome

@@ -1,9 +1,8 @@
 -- Pieces have one conversion: one list of tokens, one table of names behind it, one ending.
-use Rattle.std.proofs.Common.{◌≡◌, ◌<◌, ◌++◌, ◌∷◌, ◌∙◌, ◌⊎◌, inl, inr, [], ℕ, List, Bool, Some, true, false, arith, ap, sym, refl, subst, zero, suc, take, drop, slice_get}
+use Rattle.std.proofs.Common.{◌≡◌, ◌<◌, ◌++◌, ◌∷◌, ◌∙◌, ◌⊎◌, inl, inr, [], ℕ, List, Some, true, false, arith, ap, sym, refl, subst, zero, suc, take, drop, slice_get}
 use Rattle.std.proofs.lemmas.Option.{some_pair_parts}
 use Rattle.std.proofs.lemmas.List.{same_from_push}
-use Rattle.sb_base.specs.Names.{holds_text, with_text, IsDistinct}
-use Rattle.sb_base.proofs.Texts.{with_held, with_new, distinct_with_new}
+use Rattle.sb_base.specs.Names.{with_text, IsDistinct}
 use Rattle.sb_base.specs.declared.refusals.Place.{Place}
 use Rattle.sb_base.specs.declared.tokens.PpKind.{PpKind}
 use Rattle.sb_base.specs.declared.tokens.PpKind.TheVariants as kind
@@ -12,6 +11,7 @@ use Rattle.sb_lex.specs.declared.piece.PpToken.{PpToken}
 use Rattle.sb_lex.specs.Lexing.{HasRoom}
 use Rattle.sb_lex.specs.Values.{IsCharacter, IsText}
 use Rattle.sb_lex.proofs.Literals.{one_text}
+use Rattle.sb_prep.proofs.DistinctTexts.{distinct_with}
 use Rattle.sb_prep.specs.Lines.{spelling}
 use Rattle.sb_prep.specs.Ending.{Ending, Ended, Refused}
 use Rattle.sb_prep.specs.Tokens.{is_text_kind, texts_in_front, HasValueOf, NameBytes, Converts, HasOneConversion}
@@ -208,13 +208,6 @@ module _ (limit : ℕ) where
       rw same at other.behind
 
 -- ---- the law
-
-by_held : (texts : List (List ℕ)) (text : List ℕ) → IsDistinct texts → (held : Bool) → holds_text texts text ≡ held → IsDistinct (with_text texts text)
-by_held texts text distinct true is = rw (← with_held texts text is) distinct
-by_held texts text distinct false is = rw (with_new texts text is) (distinct_with_new texts text distinct is)
-
-pub distinct_with : (texts : List (List ℕ)) (text : List ℕ) → IsDistinct texts → IsDistinct (with_text texts text)
-distinct_with texts text distinct = by_held texts text distinct (holds_text texts text) refl
 
 same_conversion : (limit : ℕ) (texts : List (List ℕ)) (ps : List PpToken) (a b : List Token) (later other : List (List ℕ)) (end stop : Ending) → IsDistinct texts
     → Converts limit texts ps a later end → Converts limit texts ps b other stop → (a ≡ b) × (later ≡ other) × (end ≡ stop)

@@ -1,14 +1,12 @@
 -- a unit over a library that tells has one outcome, where each part of a file has
-use Rattle.std.proofs.Common.{◌≡◌, ℕ, suc, Bool, true, false, List, [], ◌∷◌, ◌++◌, length, Option, Some, refl, sym, ◌∙◌, ap, arith, if◌then◌else◌}
-use Rattle.sb_base.proofs.Texts.{distinct_with_new}
+use Rattle.std.proofs.Common.{◌≡◌, ℕ, suc, List, [], length, Option, Some, refl, sym, ◌∙◌, ap, arith}
 use Rattle.sb_base.specs.Found.{Found, Missing, TooBig, Whole as Present, IsFound}
-use Rattle.sb_base.specs.Names.{IsDistinct, holds_text, with_text}
 use Rattle.sb_base.specs.declared.refusals.Place.{Place}
 use Rattle.sb_lex.specs.declared.piece.PpToken.{PpToken}
 use Rattle.sb_prep.specs.declared.directive.Branch.{Branch}
 use Rattle.sb_prep.specs.Ending.{Ending, Refused}
-use Rattle.sb_prep.specs.Outcomes.{AreDistinct, HaveOneAnswer}
 use Rattle.sb_prep.specs.Unit.{Progress, HasPart, After, Leaves}
+use Rattle.sb_prep.proofs.Determined.{AreDistinct, HaveOneAnswer}
 
 -- two outcomes are the same
 pub record IsSame (out out' : List PpToken) (later later' : Progress) (end end' : Ending) : Type 0 where
@@ -114,10 +112,3 @@ one_found held name TooBig (Present bytes') first second = let same : bytes' ≡
 one_found held name (Present bytes) Missing first second = absurd (cc (first.0))
 one_found held name (Present bytes) TooBig first second = let same : bytes ≡ second.0 = cc (first.0, second.1) in absurd (omega (arith, first.1, second.2, ap length same))
 one_found held name (Present bytes) (Present bytes') first second = ap Present (cc (first.0, second.0))
-
-distinct_by : (texts : List (List ℕ)) (text : List ℕ) (held : Bool) → holds_text texts text ≡ held → IsDistinct texts → IsDistinct (if held then texts else (texts ++ (text ∷ [])))
-distinct_by texts text true is distinct = distinct
-distinct_by texts text false is distinct = distinct_with_new texts text distinct is
-
-pub distinct_with : (texts : List (List ℕ)) (text : List ℕ) → IsDistinct texts → IsDistinct (with_text texts text)
-distinct_with texts text distinct = distinct_by texts text (holds_text texts text) refl distinct

@@ -1,5 +1,5 @@
 -- A condition is prepared in one way: one list of pieces, one table of names behind it, one ending.
-use Rattle.std.proofs.Common.{◌≡◌, ◌<◌, ◌∷◌, ◌∙◌, ◌||◌, inl, inr, [], ℕ, List, Bool, Result, Ok, Err, Some, true, false, codes, nat_lt, length, if◌then◌else◌, arith, ap, sym, refl, slice_get}
+use Rattle.std.proofs.Common.{◌≡◌, ◌<◌, ◌∷◌, ◌||◌, inl, inr, [], ℕ, List, Bool, Result, Ok, Err, Some, true, false, codes, nat_lt, length, if◌then◌else◌, arith, sym, refl, slice_get}
 use Rattle.std.proofs.Math.Bool.{or-true}
 use Rattle.std.proofs.lemmas.Bool.{lt-ltb, le-ltb}
 use Rattle.sb_base.specs.Names.{holds_text, with_text, IsDistinct}
@@ -9,11 +9,11 @@ use Rattle.sb_base.specs.declared.tokens.PpKind.{PpKind}
 use Rattle.sb_base.specs.declared.tokens.PpKind.TheVariants as kind
 use Rattle.sb_lex.specs.declared.piece.PpToken.{PpToken}
 use Rattle.sb_lex.specs.Lexing.{HasRoom}
-use Rattle.sb_prep.proofs.OneConversion.{distinct_with}
-use Rattle.sb_prep.specs.Defined.{is_punct, is_mark, is_defined, HasName, HasNoName, digit_of, replaced_by, Prepared, HasOnePreparation}
+use Rattle.sb_prep.proofs.DistinctTexts.{distinct_with}
+use Rattle.sb_prep.specs.Defined.{is_mark, is_defined, HasName, HasNoName, digit_of, replaced_by, Prepared, HasOnePreparation}
 use Rattle.sb_prep.specs.Defined.HasName.{bare, wrapped}
 use Rattle.sb_prep.specs.Ending.{Ending, Ended, Refused}
-use Rattle.sb_prep.specs.Lines.{is_word, is_spelled}
+use Rattle.sb_prep.specs.Lines.{is_word}
 use Rattle.sb_prep.specs.Rules.{Table, is_macro}
 
 -- ---- what the pieces behind an operator name

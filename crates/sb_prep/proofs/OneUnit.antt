@@ -1,4 +1,4 @@
--- a unit over a library that tells has one outcome
+-- a unit over a library that tells has one outcome, and keeps its tables distinct
 use Rattle.std.proofs.Common.{◌≡◌, ℕ, List, Option, Some, Result, Ok, Err, slice_get, refl, ap}
 use Rattle.std.specs.declared.alloc.Global.{Global}
 use Rattle.std.specs.declared.vec.Vec.{Vec}
@@ -10,11 +10,14 @@ use Rattle.sb_lex.specs.declared.piece.PpToken.{PpToken}
 use Rattle.sb_prep.specs.declared.fault.UnitFault.{UnitFault}
 use Rattle.sb_prep.specs.declared.fault.UnitFault.TheVariants as fault
 use Rattle.sb_prep.specs.Ending.{Ending, Refused}
-use Rattle.sb_prep.specs.Outcomes.{AreDistinct, AreSettled, IsOnlyOutcome}
+use Rattle.sb_prep.specs.Outcomes.{IsOnlyOutcome}
 use Rattle.sb_prep.specs.Reading.{IsUnitOf}
 use Rattle.sb_prep.specs.Unit.{file_start, beginning, IsUnit}
+use Rattle.sb_prep.proofs.Determined.{AreDistinct, HaveOneAnswer}
+use Rattle.sb_prep.proofs.DistinctTexts.{distinct_with, reading_kept, conversion_kept}
 use Rattle.sb_prep.proofs.OneAnswer.{parts_have_one_answer}
-use Rattle.sb_prep.proofs.OneOutcome.{one_found, distinct_with, keeps, one_leaving}
+use Rattle.sb_prep.proofs.OneOutcome.{one_found, keeps, one_leaving}
+use Rattle.sb_prep.proofs.Settled.{are_settled}
 
 -- two outcomes of a unit are the same
 pub record IsSameUnit (ts ts' : List Token) (later later' last last' : List (List ℕ)) (end end' : Ending) : Type 0 where
@@ -23,7 +26,10 @@ pub record IsSameUnit (ts ts' : List Token) (later later' last last' : List (Lis
   pub lasts : last' ≡ last
   pub ends : end' ≡ end
 
-module _ (held : List ℕ → Option (List ℕ)) (limit : ℕ) (settled : AreSettled limit) (name : List ℕ) (texts files : List (List ℕ)) (distinct_texts : IsDistinct texts) (distinct_files : IsDistinct files) where
+module _ (held : List ℕ → Option (List ℕ)) (limit : ℕ) (name : List ℕ) (texts files : List (List ℕ)) (distinct_texts : IsDistinct texts) (distinct_files : IsDistinct files) where
+  one_answer : HaveOneAnswer (Some held) limit
+  one_answer = parts_have_one_answer limit (are_settled limit) held
+
   one_number : {number number' : ℕ} → slice_get (with_text files name) number ≡ Some name → slice_get (with_text files name) number' ≡ Some name → number' ≡ number
   one_number {number} {number'} at at' = (distinct_with files name distinct_files) number' number name at' at
 
@@ -32,10 +38,10 @@ module _ (held : List ℕ → Option (List ℕ)) (limit : ℕ) (settled : AreSet
 
   same_reading : (number number' : ℕ) (bytes bytes' : List ℕ) {inner inner' : List PpToken} {later later' : List (List ℕ)} {end end' : End} → number' ≡ number → bytes' ≡ bytes
       → PiecesOf number limit texts bytes inner later end → PiecesOf number' limit texts bytes' inner' later' end' → (inner' ≡ inner) × (later' ≡ later) × (end' ≡ end)
-  same_reading number number' bytes bytes' n b first second = settled.reading number texts bytes distinct_texts first (rw (n, b) at second)
+  same_reading number number' bytes bytes' n b first second = (are_settled limit).reading number texts bytes distinct_texts first (rw (n, b) at second)
 
   begins_distinct : (number : ℕ) (bytes : List ℕ) {inner : List PpToken} {later : List (List ℕ)} {end : End} → PiecesOf number limit texts bytes inner later end → AreDistinct (beginning later (with_text files name))
-  begins_distinct number bytes pieces = record { texts = settled.reading_kept number texts bytes distinct_texts pieces; files = distinct_with files name distinct_files }
+  begins_distinct number bytes pieces = record { texts = reading_kept number limit distinct_texts pieces; files = distinct_with files name distinct_files }
 
   pub one_unit : {ts ts' : List Token} {later later' last last' : List (List ℕ)} {end end' : Ending} → IsUnit (Some held) limit name texts files ts later last end → IsUnit (Some held) limit name texts files ts' later' last' end'
       → IsSameUnit ts ts' later later' last last' end end'
@@ -77,13 +83,13 @@ module _ (held : List ℕ → Option (List ℕ)) (limit : ℕ) (settled : AreSet
       let n = one_number numbered numbered' in
       let b = same_bytes bytes bytes' had had' in
       let read = same_reading number number' bytes bytes' n b pieces pieces' in
-      let left = one_leaving (Some held) limit (parts_have_one_answer limit settled held) leaves leaves' refl n (cc (n, read.0)) refl (cc (read.1)) read.0 (begins_distinct number bytes pieces) in
+      let left = one_leaving (Some held) limit one_answer leaves leaves' refl n (cc (n, read.0)) refl (cc (read.1)) read.0 (begins_distinct number bytes pieces) in
       record { tokens = refl; laters = ap (λ p. p.texts) left.laters; lasts = ap (λ p. p.files) left.laters; ends = left.ends }
   one_unit (IsUnit.stops number refusal bytes inner out later s at numbered had pieces leaves) (IsUnit.tokens number' bytes' inner' out' later' last' s' ts' end' numbered' had' pieces' leaves' converts') =
       let n = one_number numbered numbered' in
       let b = same_bytes bytes bytes' had had' in
       let read = same_reading number number' bytes bytes' n b pieces pieces' in
-      let left = one_leaving (Some held) limit (parts_have_one_answer limit settled held) leaves leaves' refl n (cc (n, read.0)) refl (cc (read.1)) read.0 (begins_distinct number bytes pieces) in
+      let left = one_leaving (Some held) limit one_answer leaves leaves' refl n (cc (n, read.0)) refl (cc (read.1)) read.0 (begins_distinct number bytes pieces) in
       absurd (cc (left.ends))
   one_unit (IsUnit.tokens number bytes inner out later last s ts end numbered had pieces leaves converts) (IsUnit.not_there number' numbered' had') = absurd (cc (one_found held name (Present bytes) Missing had had'))
   one_unit (IsUnit.tokens number bytes inner out later last s ts end numbered had pieces leaves converts) (IsUnit.too_long number' numbered' had') = absurd (cc (one_found held name (Present bytes) TooBig had had'))
@@ -96,27 +102,36 @@ module _ (held : List ℕ → Option (List ℕ)) (limit : ℕ) (settled : AreSet
       let n = one_number numbered numbered' in
       let b = same_bytes bytes bytes' had had' in
       let read = same_reading number number' bytes bytes' n b pieces pieces' in
-      let left = one_leaving (Some held) limit (parts_have_one_answer limit settled held) leaves leaves' refl n (cc (n, read.0)) refl (cc (read.1)) read.0 (begins_distinct number bytes pieces) in
+      let left = one_leaving (Some held) limit one_answer leaves leaves' refl n (cc (n, read.0)) refl (cc (read.1)) read.0 (begins_distinct number bytes pieces) in
       absurd (cc (left.ends))
   one_unit (IsUnit.tokens number bytes inner out later last s ts end numbered had pieces leaves converts) (IsUnit.tokens number' bytes' inner' out' later' last' s' ts' end' numbered' had' pieces' leaves' converts') =
       let n = one_number numbered numbered' in
       let b = same_bytes bytes bytes' had had' in
       let read = same_reading number number' bytes bytes' n b pieces pieces' in
-      let left = one_leaving (Some held) limit (parts_have_one_answer limit settled held) leaves leaves' refl n (cc (n, read.0)) refl (cc (read.1)) read.0 (begins_distinct number bytes pieces) in
+      let left = one_leaving (Some held) limit one_answer leaves leaves' refl n (cc (n, read.0)) refl (cc (read.1)) read.0 (begins_distinct number bytes pieces) in
       let texts_are : s'.texts ≡ s.texts = ap (λ p. p.texts) left.laters in
-      let made = settled.conversion (keeps (Some held) limit (parts_have_one_answer limit settled held) leaves (begins_distinct number bytes pieces)).texts converts (rw (texts_are, left.outs) at converts') in
+      let made = (are_settled limit).conversion (keeps (Some held) limit one_answer leaves (begins_distinct number bytes pieces)).texts converts (rw (texts_are, left.outs) at converts') in
       record { tokens = made.0; laters = made.1; lasts = ap (λ p. p.files) left.laters; ends = made.2 }
 
+  pub unit_keeps : {ts : List Token} {later last : List (List ℕ)} {end : Ending} → IsUnit (Some held) limit name texts files ts later last end → IsDistinct later × IsDistinct last
+  unit_keeps (IsUnit.not_there number numbered had) = (distinct_texts, distinct_with files name distinct_files)
+  unit_keeps (IsUnit.too_long number numbered had) = (distinct_texts, distinct_with files name distinct_files)
+  unit_keeps (IsUnit.not_pieces number refusal row col bytes inner later numbered had pieces) = (reading_kept number limit distinct_texts pieces, distinct_with files name distinct_files)
+  unit_keeps (IsUnit.stops number refusal bytes inner out later s at numbered had pieces leaves) = let kept = keeps (Some held) limit one_answer leaves (begins_distinct number bytes pieces) in (kept.texts, kept.files)
+  unit_keeps (IsUnit.tokens number bytes inner out later last s ts end numbered had pieces leaves converts) =
+      let kept = keeps (Some held) limit one_answer leaves (begins_distinct number bytes pieces) in
+      (conversion_kept limit kept.texts converts, kept.files)
+
 pub only_outcome : (held : Option (List ℕ → Option (List ℕ))) (limit : ℕ) (name : List ℕ) (texts files later later_files : List (List ℕ)) (result : Result (Vec Token Global) UnitFault)
-    → IsUnitOf held limit name texts files later later_files result → AreSettled limit → IsDistinct texts → IsDistinct files → (told : List ℕ → Option (List ℕ)) → held ≡ Some told
+    → IsUnitOf held limit name texts files later later_files result → IsDistinct texts → IsDistinct files → (told : List ℕ → Option (List ℕ)) → held ≡ Some told
     → IsOnlyOutcome told limit name texts files result
-only_outcome held limit name texts files later later_files (Ok tokens) told settled texts_distinct files_distinct library is =
+only_outcome held limit name texts files later later_files (Ok tokens) told texts_distinct files_distinct library is =
     λ ts last lasts end other.
-    let same = one_unit library limit settled name texts files texts_distinct files_distinct (rw is at told) other in
+    let same = one_unit library limit name texts files texts_distinct files_distinct (rw is at told) other in
     (same.tokens, same.ends)
-only_outcome held limit name texts files later later_files (Err (fault.Refused r)) told settled texts_distinct files_distinct library is =
+only_outcome held limit name texts files later later_files (Err (fault.Refused r)) told texts_distinct files_distinct library is =
     λ ts last lasts end other.
-    let same = one_unit library limit settled name texts files texts_distinct files_distinct (rw is at told.0.refused) other in
+    let same = one_unit library limit name texts files texts_distinct files_distinct (rw is at told.0.refused) other in
     same.ends
-only_outcome held limit name texts files later later_files (Err fault.Read) told settled texts_distinct files_distinct library is = tt
-only_outcome held limit name texts files later later_files (Err fault.Memory) told settled texts_distinct files_distinct library is = tt
+only_outcome held limit name texts files later later_files (Err fault.Read) told texts_distinct files_distinct library is = tt
+only_outcome held limit name texts files later later_files (Err fault.Memory) told texts_distinct files_distinct library is = tt

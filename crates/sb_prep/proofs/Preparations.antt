@@ -1,16 +1,16 @@
 -- The piece that the pieces of a condition begin with once `defined` is replaced.
-use Rattle.std.proofs.Common.{◌≡◌, ◌++◌, ◌∷◌, ◌<◌, [], ℕ, List, Bool, Some, Err, true, false, arith, ap, sym, subst, refl, length, slice_get, append-nil, append_assoc}
-use Rattle.sb_base.specs.Names.{with_text}
+use Rattle.std.proofs.Common.{◌≡◌, ◌++◌, ◌∷◌, ◌<◌, [], ℕ, List, Bool, Some, Err, true, false, arith, ap, sym, subst, refl, length, append-nil, append_assoc}
 use Rattle.sb_base.specs.declared.interning.Name.{Name}
 use Rattle.sb_base.specs.declared.refusals.Place.{Place}
+use Rattle.sb_base.specs.declared.refusals.Refusal.{Refusal}
 use Rattle.sb_base.specs.declared.refusals.Stop.{Stop}
 use Rattle.sb_base.specs.declared.refusals.Stop.TheVariants as stop
 use Rattle.sb_lex.specs.declared.piece.PpToken.{PpToken}
 use Rattle.sb_lex.specs.Lexing.{HasRoom}
-use Rattle.sb_prep.specs.Defined.{is_defined, HasName, HasNoName, digit_of, replaced_by, Prepared, IsNotPrepared}
+use Rattle.sb_prep.specs.Defined.{is_defined, HasName, HasNoName, digit_of, Prepared}
 use Rattle.sb_prep.specs.Defined.HasName.{bare, wrapped}
 use Rattle.sb_prep.specs.Ending.{Ending, Ended, Refused}
-use Rattle.sb_prep.specs.Preparing.{Begins, IsNumbered, IsDigit}
+use Rattle.sb_prep.specs.Preparing.{Begins, IsNumbered, IsDigit, IsNotBegun, IsPreparation}
 use Rattle.sb_prep.specs.Rules.{Table, is_macro}
 
 shorter : (texts : List (List ℕ)) {ts rest : List PpToken} {name : Name} → HasName texts ts name rest → length rest < length ts
@@ -30,15 +30,15 @@ module _ (limit : ℕ) (table : Table) (texts : List (List ℕ)) where
       }
 
   pub refused_name : (t : PpToken) (behind : List PpToken) (place : Place) → is_defined texts t ≡ true → HasNoName texts t.place behind place
-      → IsNotPrepared limit table texts (t ∷ behind) texts (stop.Refused (record { number = 26; place = place; feature = 0 }))
-  refused_name t behind place is has = (([], Prepared.no_name texts t behind place is has), refl)
+      → IsNotBegun limit table texts (t ∷ behind) texts (stop.Refused (record { number = 26; place = place; feature = 0 }))
+  refused_name t behind place is has = (Prepared.no_name texts t behind place is has, refl)
 
   pub refused_digit : (t : PpToken) (behind rest : List PpToken) (name : Name) (later : List (List ℕ)) (is_one : Bool) (why : Stop) → is_defined texts t ≡ true → HasName texts behind name rest
-      → is_one ≡ is_macro table name → IsDigit limit texts t (digit_of is_one) later (Err why) → IsNotPrepared limit table texts (t ∷ behind) later why
+      → is_one ≡ is_macro table name → IsDigit limit texts t (digit_of is_one) later (Err why) → IsNotBegun limit table texts (t ∷ behind) later why
   refused_digit t behind rest name later is_one stop.Memory is has told bad = tt
   refused_digit t behind rest name later is_one (stop.Refused r) is has told bad =
       let lacks = λ (room : HasRoom limit texts (digit_of (is_macro table name))). bad.0 (subst (λ (b : Bool). HasRoom limit texts (digit_of b)) (sym told) room) in
-      rw (bad.1, bad.2, bad.4) (([], Prepared.no_room texts t behind rest name is has lacks), bad.3)
+      rw (bad.1, bad.2, bad.4) (Prepared.no_room texts t behind rest name is has lacks, bad.3)
 
 -- the pieces of the rest go behind those that were made
 module _ (limit : ℕ) (table : Table) (before : List (List ℕ)) (line : List PpToken) where
@@ -54,6 +54,6 @@ module _ (limit : ℕ) (table : Table) (before : List (List ℕ)) (line : List P
       let last : Prepared limit table texts rest [] texts Ended = rw none (Prepared.ended texts) in
       rw append-nil at (goes.on [] texts Ended last)
 
-  pub Goes-refused : (texts later : List (List ℕ)) (found : List PpToken) (rest : List PpToken) (why : Stop) → Goes found texts rest → IsNotPrepared limit table texts rest later why → IsNotPrepared limit table before line later why
-  Goes-refused texts later found rest (stop.Refused r) goes none = ((found ++ none.0.0, goes.on none.0.0 later (Refused r.number r.place) none.0.1), none.1)
-  Goes-refused texts later found rest stop.Memory goes none = tt
+  pub Goes-refused : (texts later : List (List ℕ)) (found rest : List PpToken) (r : Refusal) → Goes found texts rest → IsNotBegun limit table texts rest later (stop.Refused r)
+      → IsPreparation limit table before line found later (Some r)
+  Goes-refused texts later found rest r goes bad = (rw append-nil at (goes.on [] later (Refused r.number r.place) bad.0), bad.1)

@@ -1,8 +1,9 @@
 -- Where a condition is refused.
-use Rattle.std.proofs.Common.{◌≡◌, ◌∙◌, ◌⊎◌, ◌<◌, ◌∷◌, ◌-◌, inl, inr, [], ℕ, suc, List, Bool, Result, Ok, Err, MatchResult, IfOk, IfErr, arith, ap, subst, refl, length, get_or}
-use Rattle.std.specs.List.{All}
+use Rattle.std.proofs.Common.{◌≡◌, ◌∙◌, ◌⊎◌, ◌<◌, ◌∷◌, ◌-◌, inl, inr, [], ℕ, suc, List, Bool, Result, Ok, Err, MatchResult, IfOk, IfErr, not, Option, Some, None, arith, ap, sym, subst, refl, length, get_or}
+use Rattle.std.specs.List.{All, prefix_len}
+use Rattle.std.specs.Option.{option_map}
 use Rattle.std.proofs.lemmas.Option.{slice_get_cases}
-use Rattle.std.proofs.lemmas.List.Elements.{All-nil, All-cons, All-weaker, All-contains}
+use Rattle.std.proofs.lemmas.List.Elements.{All-nil, All-cons, All-take, All-weaker, All-contains}
 use Rattle.sb_base.specs.declared.interning.Name.{Name}
 use Rattle.sb_base.specs.declared.refusals.Place.{Place}
 use Rattle.sb_base.specs.declared.refusals.Refusal.{Refusal}
@@ -10,8 +11,11 @@ use Rattle.sb_base.specs.declared.refusals.Stop.{Stop}
 use Rattle.sb_base.specs.declared.refusals.Stop.TheVariants as stop
 use Rattle.sb_cond.specs.Condition.{LineHolds, LineRefused, IsLineFault, place_in}
 use Rattle.sb_lex.specs.declared.piece.PpToken.{PpToken}
-use Rattle.sb_prep.specs.Conditions.{HasTruth, HasNoTruth}
-use Rattle.sb_prep.specs.Defined.{HasName, HasNoName, Prepared, IsNotPrepared, replaced_by}
+use Rattle.sb_cond.specs.Front.{FrontRefused}
+use Rattle.sb_prep.specs.Conditions.{HasTruth, HasNoTruth, StopsBehind, IsFirst, is_place, pieces_before}
+use Rattle.sb_prep.specs.Judging.{IsFirstRefusal}
+use Rattle.sb_prep.specs.Preparing.{IsPreparation}
+use Rattle.sb_prep.specs.Defined.{HasName, HasNoName, Prepared, replaced_by}
 use Rattle.sb_prep.specs.Ending.{Ending, Ended, Refused}
 use Rattle.sb_prep.specs.Limits.{most_tokens}
 use Rattle.sb_prep.specs.Lines.{end_of}
@@ -81,20 +85,51 @@ module _ (limit : ℕ) (table : Table) where
 
 -- ---- conditions
 
+module _ (texts : List (List ℕ)) (table : Table) (front : List PpToken) (refusal : Refusal) where
+  found_among : (out : List PpToken) (end place : Place) (at : Option ℕ) → All (λ t. IsAmong front t.place) out → Some place ≡ option_map (place_in out end) at → (place ≡ end) ⊎ IsAmong front place
+  found_among out end place None all is = absurd (cc is)
+  found_among out end place (Some k) all is =
+      let same : place ≡ place_in out end k = cc is in
+      elim (place_at out end k) [ inl ends ↦ inl (same ∙ ends) | inr among ↦ inr (rw same (among_within front out (place_in out end k) all among)) ]
+
+  pub front_first : (out : List PpToken) (place : Place) (why : Stop) → IsExpansion texts table most_tokens front out → All (λ t. IsAmong front t.place) out → FrontRefused texts out refusal.place (Some place)
+      → why ≡ stop.Refused (record { number = 26; place = place; feature = 0 }) → IsFirstRefusal texts table front refusal why
+  front_first out place why expansion all found is =
+      subst (IsFirstRefusal texts table front refusal) (sym is) (inr (IsFirst.judged out (Some place) expansion found, refl, refl, found_among out refusal.place place found.at all found.is))
+
+  pub front_sound : (out : List PpToken) → IsExpansion texts table most_tokens front out → FrontRefused texts out refusal.place None → IsFirstRefusal texts table front refusal (stop.Refused refusal)
+  front_sound out expansion found = inl (IsFirst.judged out None expansion found, refl)
+
+  pub front_stopped : (number : ℕ) (place : Place) → HasStopped texts table most_tokens front number place → IsFirstRefusal texts table front refusal (stop.Refused refusal)
+  front_stopped number place halt = inl (IsFirst.not_judged number place halt, refl)
+
 module _ (limit : ℕ) (texts : List (List ℕ)) (table : Table) (at : Place) (line : List PpToken) where
   -- where a condition is refused
   abbrev pub IsUntrue : Stop → Type 0
   IsUntrue = IsStop (λ number place. HasNoTruth limit texts table at line number place × ((place ≡ at) ⊎ IsAmong line place))
 
-  pub not_prepared : (later : List (List ℕ)) (why : Stop) → IsNotPrepared limit table texts line later why → IsUntrue why
-  not_prepared later stop.Memory bad = tt
-  not_prepared later (stop.Refused r) bad = ((HasNoTruth.unprepared bad.0.0 r.number r.place later bad.0.1, inr (refused_among limit table bad.0.1)), bad.1)
+  pub stops : (front : List PpToken) (later : List (List ℕ)) (refusal : Refusal) (why : Stop) → StopsBehind limit texts table line front refusal.number refusal.place later → refusal.feature ≡ 0
+      → IsAmong line refusal.place → All (λ t. IsAmong line t.place) front → IsFirstRefusal later table front refusal why → IsUntrue why
+  stops front later refusal stop.Memory behind featureless among all first = tt
+  stops front later refusal (stop.Refused r) behind featureless among all (inl this) =
+      rw this.1 ((HasNoTruth.stopped front refusal.number refusal.place later behind this.0, inr among), featureless)
+  stops front later refusal (stop.Refused r) behind featureless among all (inr earlier) =
+      let here : IsAmong line r.place = elim earlier.3 [ inl same ↦ subst (IsAmong line) (sym same) among | inr inside ↦ among_within line front r.place all inside ] in
+      let no_truth : HasNoTruth limit texts table at line r.number r.place = rw earlier.1 (HasNoTruth.before front refusal.number refusal.place r.place later behind earlier.0) in
+      ((no_truth, inr here), earlier.2)
 
-  pub not_expanded : (prepared : List PpToken) (later : List (List ℕ)) (why : Stop) → Prepared limit table texts line prepared later Ended
-      → IsStop (λ number place. HasStopped later table most_tokens prepared number place × IsAmong prepared place) why → IsUntrue why
-  not_expanded prepared later stop.Memory made halt = tt
-  not_expanded prepared later (stop.Refused r) made halt =
-      ((HasNoTruth.stopped prepared r.number r.place later made halt.0.0, inr (among_within line prepared r.place (prepared_among limit table made) halt.0.1)), halt.1)
+  pub at_operator : (front : List PpToken) (later : List (List ℕ)) (refusal : Refusal) (why : Stop) → IsPreparation limit table texts line front later (Some refusal)
+      → IsFirstRefusal later table front refusal why → IsUntrue why
+  at_operator front later refusal why made first =
+      stops front later refusal why (StopsBehind.at_operator front refusal.number refusal.place later made.0) made.1 (refused_among limit table made.0) (prepared_among limit table made.0) first
+
+  pub in_macros : (prepared : List PpToken) (later : List (List ℕ)) (refusal : Refusal) (why : Stop) → Prepared limit table texts line prepared later Ended
+      → HasStopped later table most_tokens prepared refusal.number refusal.place → IsAmong prepared refusal.place → refusal.feature ≡ 0
+      → IsFirstRefusal later table (pieces_before refusal.place prepared) refusal why → IsUntrue why
+  in_macros prepared later refusal why made halt among featureless first =
+      let each = prepared_among limit table made in
+      stops (pieces_before refusal.place prepared) later refusal why (StopsBehind.in_macros prepared refusal.number refusal.place later made halt) featureless (among_within line prepared refusal.place each among)
+      (All-take (λ t. IsAmong line t.place) (prefix_len (λ t. not (is_place t.place refusal.place)) prepared) prepared each) first
 
   judged_among : (out : List PpToken) (k : ℕ) (place : Place) → All (λ t. IsAmong line t.place) out → place ≡ place_in out (end_of at line) k → (place ≡ at) ⊎ IsAmong line place
   judged_among out k place all is =

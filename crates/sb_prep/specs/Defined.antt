@@ -3,8 +3,6 @@ use Rattle.std.specs.Prelude.{◌≡◌, ℕ, Bool, true, false, ◌&&◌, List,
 use Rattle.sb_base.specs.Names.{with_text}
 use Rattle.sb_base.specs.declared.interning.Name.{Name}
 use Rattle.sb_base.specs.declared.refusals.Place.{Place}
-use Rattle.sb_base.specs.declared.refusals.Stop.{Stop}
-use Rattle.sb_base.specs.declared.refusals.Stop.TheVariants as stop
 use Rattle.sb_base.specs.declared.tokens.PpKind.{PpKind}
 use Rattle.sb_base.specs.declared.tokens.PpKind.TheVariants as kind
 use Rattle.sb_lex.specs.declared.piece.PpToken.{PpToken}
@@ -64,11 +62,6 @@ pub data Prepared (limit : ℕ) (table : Table) : List (List ℕ) → List PpTok
   no_room : (texts : List (List ℕ)) (t : PpToken) (ts rest : List PpToken) (name : Name)
       → is_defined texts t ≡ true → HasName texts ts name rest → (HasRoom limit texts (digit_of (is_macro table name)) → ⊥)
       → Prepared limit table texts (t ∷ ts) [] texts (Refused 28 t.place)
-
--- a line is refused, behind the pieces before that; want of memory may come at any time
-abbrev pub IsNotPrepared : (limit : ℕ) → Table → List (List ℕ) → List PpToken → List (List ℕ) → Stop → Type 0
-IsNotPrepared limit table texts line later (stop.Refused r) = ((front : List PpToken) × Prepared limit table texts line front later (Refused r.number r.place)) × (r.feature ≡ 0)
-IsNotPrepared limit table texts line later stop.Memory = Unit {0}
 
 -- a line is prepared in one way
 abbrev pub HasOnePreparation : (limit : ℕ) → Table → List (List ℕ) → List PpToken → Type 0

@@ -6,6 +6,7 @@ pub mod Asking
 pub mod Limits
 pub mod Defined
 pub mod Preparing
+pub mod Judging
 pub mod Conditions
 pub mod Ending
 pub mod Tokens

@@ -2,7 +2,6 @@
 use Rattle.std.specs.Prelude.{◌≡◌, ℕ, ◌<◌, Bool, true, false, List, [], ◌∷◌, ◌++◌, Some, slice_get, take, drop}
 use Rattle.std.specs.List.{prefix_len}
 use Rattle.sb_base.specs.Names.{with_text}
-use Rattle.sb_base.specs.declared.refusals.Place.{Place}
 use Rattle.sb_base.specs.declared.refusals.Stop.{Stop}
 use Rattle.sb_base.specs.declared.refusals.Stop.TheVariants as stop
 use Rattle.sb_base.specs.declared.tokens.PpKind.{PpKind}

@@ -1,17 +1,23 @@
 //! The operator `defined` of conditions (C99 6.10.1 paragraph 1).
-ghost use Rattle.std.specs.Prelude.{◌≡◌, Bool, [], true, IfErr, IfOk, MatchOption, MatchResult};
+ghost use Rattle.std.specs.Prelude.{◌≡◌, [], IfErr, IfOk, MatchOption, MatchResult};
 ghost use Rattle.sb_base.specs.Names.{IsDistinct};
 ghost use Rattle.sb_prep.specs.Defined as spec;
-ghost use Rattle.sb_prep.specs.Ending.Ending.{Ended};
-ghost use Rattle.sb_prep.specs.Preparing.{Begins, IsDigit};
+ghost use Rattle.sb_prep.specs.Preparing.{Begins, IsDigit, IsNotBegun, IsPreparation};
 
 use crate::fault::refused;
 use crate::lines::is_word;
 use crate::rules::Rules;
 use crate::spelling::spelling;
-use sb_base::{Name, Names, NamesFault, Place, PpKind, Stop};
+use sb_base::{Name, Names, NamesFault, Place, PpKind, Refusal, Stop};
 use sb_lex::PpToken;
-use std::alloc::Global;
+use std::alloc::{AllocError, Global};
+
+/// The pieces of a condition, up to its end or to the refusal that ended them.
+#[derive(Drop)]
+pub(crate) struct Preparation {
+    pub(crate) pieces: Vec<PpToken>,
+    pub(crate) refusal: Option<Refusal>,
+}
 
 /// Whether the piece is this punctuator.
 fn is_mark(names: &Names, piece: &PpToken, mark: &[u8]) -> bool
@@ -95,7 +101,7 @@ fn first_prepared<'a>(
     pieces: &'a [PpToken],
 ) -> Result<Option<(PpToken, &'a [PpToken])>, Stop>
     ensures piece { IfOk result (λ first. MatchOption first ((pieces.now ≡ []) × (names.new.texts ≡ names.old.texts)) (λ f. Begins names.old.limit rules.now names.old.texts pieces.now names.new.texts f.0 f.1.now)) }
-    ensures refused { IfErr result (spec.IsNotPrepared names.old.limit rules.now names.old.texts pieces.now names.new.texts) }
+    ensures refused { IfErr result (IsNotBegun names.old.limit rules.now names.old.texts pieces.now names.new.texts) }
     ensures limit { names.new.limit ≡ names.old.limit }
     ensures distinct { IsDistinct names.old.texts → IsDistinct names.new.texts }
 {
@@ -117,32 +123,44 @@ fn first_prepared<'a>(
 /// The pieces of a condition in which each operator `defined NAME` and `defined ( NAME )` is replaced by the number `1`
 /// where the name is that of a macro, and else by `0` (C99 6.10.1 paragraph 1), with the place of `defined`.
 ///
-/// The first of these that comes stops it:
+/// The first of these that comes ends them:
 /// - 26: where no name stands behind `defined`, at the piece that makes it none, the last one where the line ends too early,
 /// - 28: at a `defined` for whose number the table of names has no room.
-///
-/// Want of memory may come at any time.
 #[tactic(auto, using(crate::proofs::OnePreparation::one_preparation))]
 pub(crate) fn prepared(
     alloc: Global,
     names: &mut Names,
     rules: &Rules,
     line: &[PpToken],
-) -> Result<Vec<PpToken>, Stop>
-    ensures prepared { MatchResult result (λ out. spec.Prepared names.old.limit rules.now names.old.texts line.now out.items names.new.texts Ended) (spec.IsNotPrepared names.old.limit rules.now names.old.texts line.now names.new.texts) }
+) -> Result<Preparation, AllocError>
+    ensures prepared { IfOk result (λ made. IsPreparation names.old.limit rules.now names.old.texts line.now made.pieces.items names.new.texts made.refusal) }
     ensures limit { names.new.limit ≡ names.old.limit }
     ensures distinct { IsDistinct names.old.texts → IsDistinct names.new.texts }
     ensures only { IsDistinct names.old.texts → spec.HasOnePreparation names.old.limit rules.now names.old.texts line.now }
 {
-    let mut out = Vec::new(alloc);
+    let mut pieces = Vec::new(alloc);
     let mut rest = line;
-    'pieces: while let Some((piece, behind)) = first_prepared(alloc, names, rules, rest)? {
-        let Ok(()) = out.push(piece) else {
-            return Err(Stop::Memory);
-        };
-        rest = behind;
+    'turns: loop {
+        match first_prepared(alloc, names, rules, rest) {
+            Ok(Some((piece, behind))) => {
+                pieces.push(piece)?;
+                rest = behind;
+            }
+            Ok(None) => {
+                return Ok(Preparation {
+                    pieces,
+                    refusal: None,
+                });
+            }
+            Err(Stop::Refused(refusal)) => {
+                return Ok(Preparation {
+                    pieces,
+                    refusal: Some(refusal),
+                });
+            }
+            Err(Stop::Memory) => return Err(AllocError),
+        }
     }
-    Ok(out)
 }
 
 #[cfg(test)]
@@ -152,28 +170,24 @@ mod tests {
     use std::fmt::Write;
     use std::test::Fail;
 
-    /// Each piece's text, or the number of the refusal and which piece it is at.
+    /// Each piece's text and which one it was, and the number of the refusal and which piece it is at.
     fn shown(alloc: Global, limit: u32, text: &str) -> Result<String, Fail> {
         let mut names = Names::new(alloc, limit);
         let line = pieces_of(alloc, &mut names, text)?;
         let rules = Rules::new(alloc);
         let mut shown = String::new(alloc);
-        match prepared(alloc, &mut names, &rules, &line) {
-            Ok(pieces) => {
-                for piece in &pieces {
-                    for byte in spelling(&names, piece) {
-                        shown.push(*byte as char)?;
-                    }
-                    let col = piece.place.col;
-                    write!(shown, " at {col};")?;
-                }
+        let made = prepared(alloc, &mut names, &rules, &line)?;
+        for piece in &made.pieces {
+            for byte in spelling(&names, piece) {
+                shown.push(*byte as char)?;
             }
-            Err(Stop::Refused(refusal)) => {
-                let number = refusal.number;
-                let col = refusal.place.col;
-                write!(shown, "refused {number} at {col}")?;
-            }
-            Err(Stop::Memory) => shown.push_str("memory")?,
+            let col = piece.place.col;
+            write!(shown, " at {col};")?;
+        }
+        if let Some(refusal) = made.refusal {
+            let number = refusal.number;
+            let col = refusal.place.col;
+            write!(shown, "refused {number} at {col}")?;
         }
         Ok(shown)
     }
@@ -186,7 +200,7 @@ mod tests {
             (9, "defined|(|X|)", "0 at 1;"),
             (9, "defined|defined|Y", "0 at 1;Y at 3;"),
             (9, "!|defined|X|&&|1", "! at 1;0 at 2;&& at 4;1 at 5;"),
-            (9, "1|defined", "refused 26 at 2"),
+            (9, "1|defined", "1 at 1;refused 26 at 2"),
             (9, "defined|1", "refused 26 at 2"),
             (9, "defined|(", "refused 26 at 2"),
             (9, "defined|(|)", "refused 26 at 3"),

@@ -1,28 +1,76 @@
 //! Whether the condition of an `#if` holds (C99 6.10.1).
-ghost use Rattle.std.specs.Prelude.{◌≡◌, ◌⊎◌, MatchResult};
+ghost use Rattle.std.specs.Prelude.{◌≡◌, ◌≤◌, ◌⊎◌, MatchResult, length};
 ghost use Rattle.sb_base.specs.Names.{IsDistinct};
-ghost use Rattle.sb_prep.specs.Conditions.{HasTruth, HasNoTruth};
+ghost use Rattle.sb_prep.specs.Conditions as spec;
+ghost use Rattle.sb_prep.specs.Conditions.{HasTruth, HasNoTruth, HasOneAnswer};
+ghost use Rattle.sb_prep.specs.Judging.{IsFirstRefusal};
 ghost use Rattle.sb_prep.specs.Stopping.{IsStop, IsAmong};
 
 use crate::defined::prepared;
+use crate::fault::refused;
 use crate::lines::end_of;
 use crate::rules::Rules;
 use crate::state::MOST_TOKENS;
-use sb_base::{Names, Place, Stop};
-use sb_cond::condition;
+use sb_base::{Names, Place, Refusal, Stop};
+use sb_cond::{condition, front_refusal};
 use sb_lex::PpToken;
 use std::alloc::Global;
+
+fn is_place(place: Place, other: Place) -> bool
+    ensures place { result ≡ spec.is_place place other }
+{
+    place.file == other.file && place.line == other.line && place.col == other.col
+}
+
+/// How many pieces stand before the first one at the place.
+fn count_before(place: Place, pieces: &[PpToken]) -> usize
+    ensures count { result ≡ spec.count_before place pieces.now }
+    ensures within { result ≤ length pieces.now }
+{
+    pieces
+        .iter()
+        .take_while(|piece| !is_place(piece.place, place))
+        .count()
+}
+
+fn pieces_before(place: Place, pieces: &[PpToken]) -> &[PpToken]
+    ensures before { result.now ≡ spec.pieces_before place pieces.now }
+{
+    let (before, _behind) = pieces.split_at(count_before(place, pieces));
+    before
+}
+
+/// The refusal of a line before which these pieces stand, or the one that stands in what macros make of these.
+fn first_refusal(
+    alloc: Global,
+    names: &Names,
+    rules: &Rules,
+    front: &[PpToken],
+    refusal: Refusal,
+) -> Stop
+    ensures first { IsFirstRefusal names.now.texts rules.now front.now refusal result }
+{
+    match rules.expand(alloc, names, front, MOST_TOKENS) {
+        Ok(out) => match front_refusal(alloc, names, &out, refusal.place) {
+            Ok(Some(place)) => refused(26, place),
+            Ok(None) => Stop::Refused(refusal),
+            Err(_) => Stop::Memory,
+        },
+        Err(Stop::Refused(_)) => Stop::Refused(refusal),
+        Err(Stop::Memory) => Stop::Memory,
+    }
+}
 
 /// Whether the condition of an `#if` or `#elif` holds, whose word stands at the place, by the pieces behind the word:
 /// the operator `defined` is replaced first, then macros are, and then the expression is judged.
 ///
-/// The first of these steps that is refused stops it:
-/// - 26 or 28: `defined` cannot be replaced,
-/// - 13, 14 or 16: macros cannot be,
-/// - 26: the rest is no expression, or an operator in it has no value, at the piece that makes it so; where nothing is left
-///   of the line, at its last piece, and where the line is empty at its word.
+/// Refused by 26 or 28 where `defined` cannot be replaced, by 13, 14 or 16 where macros cannot be, and by 26 where the
+/// rest is no expression or an operator in it has no value, at the piece that makes it so, the last one where it ends
+/// too early, and the word where the line is empty. Of a refusal of the first two kinds and a 26 that stands in the
+/// pieces before it, whatever follows these, the latter comes first.
 ///
 /// Want of memory may come at any time.
+#[tactic(auto, using(crate::proofs::ConditionsOnce::one_condition))]
 pub(crate) fn truth(
     alloc: Global,
     names: &mut Names,
@@ -33,8 +81,88 @@ pub(crate) fn truth(
     ensures truth { MatchResult result (λ holds. HasTruth names.old.limit names.old.texts rules.now at line.now holds names.new.texts) (IsStop (λ number place. HasNoTruth names.old.limit names.old.texts rules.now at line.now number place × ((place ≡ at) ⊎ IsAmong line.now place))) }
     ensures limit { names.new.limit ≡ names.old.limit }
     ensures distinct { IsDistinct names.old.texts → IsDistinct names.new.texts }
+    ensures only { IsDistinct names.old.texts → HasOneAnswer names.old.limit names.old.texts rules.now at line.now }
 {
-    let line_prepared = prepared(alloc, names, rules, line)?;
-    let expanded = rules.expand(alloc, names, &line_prepared, MOST_TOKENS)?;
-    condition(alloc, names, &expanded, end_of(at, line))
+    let Ok(made) = prepared(alloc, names, rules, line) else {
+        return Err(Stop::Memory);
+    };
+    if let Some(refusal) = made.refusal {
+        return Err(first_refusal(alloc, names, rules, &made.pieces, refusal));
+    }
+    match rules.expand(alloc, names, &made.pieces, MOST_TOKENS) {
+        Ok(out) => condition(alloc, names, &out, end_of(at, line)),
+        Err(Stop::Refused(refusal)) => {
+            let front = pieces_before(refusal.place, &made.pieces);
+            Err(first_refusal(alloc, names, rules, front, refusal))
+        }
+        Err(Stop::Memory) => Err(Stop::Memory),
+    }
+}
+
+#[cfg(test)]
+mod tests {
+    use super::*;
+    use crate::spelling::made::pieces_of;
+    use std::fmt::Write;
+    use std::test::Fail;
+
+    fn defined(alloc: Global, names: &mut Names) -> Result<Rules, Fail> {
+        let mut rules = Rules::new(alloc);
+        for text in ["ONE|1", "EMPTY", "SAME|(|x|)| x", "MORE| +|1"] {
+            let line = pieces_of(alloc, names, text)?;
+            rules.define(alloc, names, &line)?;
+        }
+        Ok(rules)
+    }
+
+    fn shown(alloc: Global, text: &str) -> Result<String, Fail> {
+        let mut names = Names::new(alloc, 100);
+        let rules = defined(alloc, &mut names)?;
+        let line = pieces_of(alloc, &mut names, text)?;
+        let at = Place {
+            file: 0,
+            line: 1,
+            col: 0,
+        };
+        let mut shown = String::new(alloc);
+        match truth(alloc, &mut names, &rules, at, &line) {
+            Ok(holds) => write!(shown, "{holds}")?,
+            Err(Stop::Refused(refusal)) => {
+                let number = refusal.number;
+                let col = refusal.place.col;
+                write!(shown, "refused {number} at {col}")?;
+            }
+            Err(Stop::Memory) => shown.push_str("memory")?,
+        }
+        Ok(shown)
+    }
+
+    #[test]
+    fn judges_conditions(rt: HostRuntime) -> Result<(), Fail> {
+        for (text, want) in [
+            ("1", "true"),
+            ("ONE|MORE|==|2", "true"),
+            ("defined|ONE", "true"),
+            ("defined|(|TWO|)", "false"),
+            ("!|defined|TWO|&&|1", "true"),
+            ("defined|EMPTY|&&|SAME|(|ONE|)", "true"),
+            ("", "refused 26 at 0"),
+            ("defined", "refused 26 at 1"),
+            ("defined|(", "refused 26 at 2"),
+            ("defined|(|X", "refused 26 at 3"),
+            ("defined|1", "refused 26 at 2"),
+            ("1|+", "refused 26 at 2"),
+            ("1|+|EMPTY", "refused 26 at 3"),
+            ("1|2|defined", "refused 26 at 2"),
+            ("1|/|0|+|defined", "refused 26 at 2"),
+            ("(|1|+|defined|3", "refused 26 at 5"),
+            ("SAME|(|1|,|2|)", "refused 13 at 1"),
+            ("1|2|SAME|(|1|,|2|)", "refused 26 at 2"),
+            ("1|+|SAME|(|1", "refused 14 at 5"),
+        ] {
+            let found = shown(rt.alloc(), text)?;
+            assert_eq!(rt; found.as_str(), want, "at {text}");
+        }
+        Ok(())
+    }
 }

@@ -4,7 +4,7 @@ ghost use Rattle.sb_base.specs.Found.{seen, IsWithinLimit};
 ghost use Rattle.sb_base.specs.Names.{IsDistinct};
 ghost use Rattle.sb_prep.specs.Asking as asking;
 ghost use Rattle.sb_prep.specs.Lines.{begins_directive, end_of};
-ghost use Rattle.sb_prep.specs.Outcomes.{AreSettled, IsOnlyOutcome};
+ghost use Rattle.sb_prep.specs.Outcomes.{IsOnlyOutcome};
 ghost use Rattle.sb_prep.specs.Reading.{IsCarried, IsDirective, IsNoDirective, IsTextRead, IsLate, IsPartRead, IsUnclosed, IsFile, HasPieces, HasNoPieces, IsUnitOf};
 ghost use Rattle.sb_prep.specs.Standing.{moved_to, start};
 ghost use Rattle.sb_prep.specs.Stopping.{IsStop, IsFault, IsIn, AreIn, AreTokensIn, IsKept, HasCause};
@@ -309,7 +309,7 @@ pub fn unit<L: Library>(
 ) -> Result<Vec<Token>, UnitFault>
     requires room { length files.old ≤ 2 ^ 31 }
     ensures unit { IsUnitOf (L.held lib.old) names.old.limit name.now names.old.texts files.old names.new.texts files.new result }
-    ensures only { AreSettled names.old.limit → IsDistinct names.old.texts → IsDistinct files.old → (told : List ℕ → Option (List ℕ)) → L.held lib.old ≡ Some told → IsOnlyOutcome told names.old.limit name.now names.old.texts files.old result }
+    ensures only { IsDistinct names.old.texts → IsDistinct files.old → (told : List ℕ → Option (List ℕ)) → L.held lib.old ≡ Some told → IsOnlyOutcome told names.old.limit name.now names.old.texts files.old result }
     ensures places { IfOk result (λ tokens. AreTokensIn (length files.new) tokens.items) }
     ensures most { IfOk result (λ tokens. length tokens.items ≤ most_tokens) }
     ensures limit { names.new.limit ≡ names.old.limit }
