@@ -6,6 +6,7 @@ use Rattle.sb_base.specs.declared.tokens.Token.{Token}
 use Rattle.sb_parse.proofs.Places.{one_place, none_is_refused}
 use Rattle.sb_prep.specs.Ending.{Ending, Ended, Refused as RefusedAt}
 use Rattle.sb_prep.specs.Unit.{IsUnit}
+use Rattle.sb_prep.proofs.OneUnit.{one_unit, unit_keeps}
 use Rattle.sb_term.specs.AnswerOf.{answer_of}
 use Rattle.sb_top.specs.declared.lexeme.Piece.{Piece}
 use Rattle.sb_top.specs.declared.status.Status.{Status}
@@ -15,7 +16,7 @@ use Rattle.sb_top.specs.Walks.{report}
 use Rattle.sb_top.specs.Texts.{refusal, report_text}
 use Rattle.sb_top.specs.Words.{files_of_words}
 use Rattle.sb_top.specs.Lexemes.{pieces_of}
-use Rattle.sb_top.specs.Sets.{most_names, AreUnits, AreRead, IsRefusedAt, IsUnreadAt, SameOutcome, UnitsAreFunctional}
+use Rattle.sb_top.specs.Sets.{most_names, AreUnits, AreRead, IsRefusedAt, IsUnreadAt}
 use Rattle.sb_top.specs.Sets.AreUnits.{none, next, refused}
 use Rattle.sb_top.specs.Sets.AreRead.{ended, read}
 use Rattle.sb_top.specs.Sets.IsUnreadAt.{here, behind}
@@ -70,7 +71,14 @@ never_both texts _ _ _ _ (read tokens units fs more file are) (here others rest 
 never_both texts _ _ _ _ (read tokens units fs more file are) (behind others rest gs place at there) e =
     let tail : units ≡ rest = cc e in never_both texts units rest more place are there tail
 
--- ---- the units of a told library, where each has one outcome
+-- ---- the units of a told library
+
+-- two readings of files are one: the tokens of the units, the tables of names and of files, and the ending
+record SameUnits (us vs : List (List Token)) (later more last other : List (List ℕ)) (end ending : Ending) : Type 0 where
+  given : vs ≡ us
+  texts : more ≡ later
+  files : other ≡ last
+  ends : ending ≡ end
 
 moved : (held : Option (List ℕ → Option (List ℕ))) (limit : ℕ) (name name' : List ℕ) (texts texts' files files' later last : List (List ℕ)) (ts : List Token) (end : Ending) → name' ≡ name → texts' ≡ texts → files' ≡ files
     → IsUnit held limit name' texts' files' ts later last end → IsUnit held limit name texts files ts later last end
@@ -78,39 +86,37 @@ moved held limit name name' texts texts' files files' later last ts end n t f is
     subst (λ z. IsUnit held limit z texts files ts later last end) n (subst (λ z. IsUnit held limit name' z files ts later last end) t (subst (λ z. IsUnit held limit name' texts' z ts later last end) f is))
 
 -- two readings of one list of files that begin with the same tables
-same_units : (held : List ℕ → Option (List ℕ)) (limit : ℕ) → UnitsAreFunctional held limit
-    → (texts files names later last : List (List ℕ)) (us : List (List Token)) (end : Ending) (texts' files' names' more other : List (List ℕ)) (vs : List (List Token)) (ending : Ending)
+same_units : (held : List ℕ → Option (List ℕ)) (limit : ℕ) (texts files names later last : List (List ℕ)) (us : List (List Token)) (end : Ending) (texts' files' names' more other : List (List ℕ)) (vs : List (List Token)) (ending : Ending)
     → AreUnits (Some held) limit texts files names us later last end → AreUnits (Some held) limit texts' files' names' vs more other ending
-    → texts' ≡ texts → files' ≡ files → names' ≡ names → IsDistinct texts → IsDistinct files → SameOutcome us vs later more last other end ending
-same_units held limit law _ _ _ _ _ _ _ _ _ _ _ _ _ _ (none texts files) (none texts' files') t f n dt df = record { given = refl; texts = t; files = f; ends = refl }
-same_units held limit law _ _ _ _ _ _ _ _ _ _ _ _ _ _ (none texts files) (next texts' files' middle' between' later' last' names' name' tokens' units' end' is' are') t f n dt df = absurd (cc n)
-same_units held limit law _ _ _ _ _ _ _ _ _ _ _ _ _ _ (none texts files) (refused texts' files' later' last' names' name' tokens' number' place' is') t f n dt df = absurd (cc n)
-same_units held limit law _ _ _ _ _ _ _ _ _ _ _ _ _ _ (next texts files middle between later last names name tokens us end is are) (none texts' files') t f n dt df = absurd (cc n)
-same_units held limit law _ _ _ _ _ _ _ _ _ _ _ _ _ _ (next texts files middle between later last names name tokens us end is are) (next texts' files' middle' between' later' last' names' name' tokens' vs end' is' are') t f n dt df =
+    → texts' ≡ texts → files' ≡ files → names' ≡ names → IsDistinct texts → IsDistinct files → SameUnits us vs later more last other end ending
+same_units held limit _ _ _ _ _ _ _ _ _ _ _ _ _ _ (none texts files) (none texts' files') t f n dt df = record { given = refl; texts = t; files = f; ends = refl }
+same_units held limit _ _ _ _ _ _ _ _ _ _ _ _ _ _ (none texts files) (next texts' files' middle' between' later' last' names' name' tokens' units' end' is' are') t f n dt df = absurd (cc n)
+same_units held limit _ _ _ _ _ _ _ _ _ _ _ _ _ _ (none texts files) (refused texts' files' later' last' names' name' tokens' number' place' is') t f n dt df = absurd (cc n)
+same_units held limit _ _ _ _ _ _ _ _ _ _ _ _ _ _ (next texts files middle between later last names name tokens us end is are) (none texts' files') t f n dt df = absurd (cc n)
+same_units held limit _ _ _ _ _ _ _ _ _ _ _ _ _ _ (next texts files middle between later last names name tokens us end is are) (next texts' files' middle' between' later' last' names' name' tokens' vs end' is' are') t f n dt df =
     let head : name' ≡ name = cc n in
     let tail : names' ≡ names = cc n in
     let again = moved (Some held) limit name name' texts texts' files files' middle' between' tokens' Ended head t f is' in
-    let unit : SameOutcome tokens tokens' middle middle' between between' Ended Ended = law.one name texts files middle middle' between between' tokens tokens' Ended Ended dt df is again in
-    let apart : IsDistinct middle × IsDistinct between = law.distinct name texts files middle between tokens Ended dt df is in
-    let rest : SameOutcome us vs later later' last last' end end' = same_units held limit law middle between names later last us end middle' between' names' later' last' vs end' are are' unit.texts unit.files tail apart.0 apart.1 in
-    record { given = ap (λ z. z ∷ vs) unit.given ∙ ap (λ z. tokens ∷ z) rest.given; texts = rest.texts; files = rest.files; ends = rest.ends }
-same_units held limit law _ _ _ _ _ _ _ _ _ _ _ _ _ _ (next texts files middle between later last names name tokens us end is are) (refused texts' files' later' last' names' name' tokens' number' place' is') t f n dt df =
+    let unit = one_unit held limit name texts files dt df is again in
+    let apart : IsDistinct middle × IsDistinct between = unit_keeps held limit name texts files dt df is in
+    let rest : SameUnits us vs later later' last last' end end' = same_units held limit middle between names later last us end middle' between' names' later' last' vs end' are are' unit.laters unit.lasts tail apart.0 apart.1 in
+    record { given = ap (λ z. z ∷ vs) unit.tokens ∙ ap (λ z. tokens ∷ z) rest.given; texts = rest.texts; files = rest.files; ends = rest.ends }
+same_units held limit _ _ _ _ _ _ _ _ _ _ _ _ _ _ (next texts files middle between later last names name tokens us end is are) (refused texts' files' later' last' names' name' tokens' number' place' is') t f n dt df =
     let head : name' ≡ name = cc n in
     let again = moved (Some held) limit name name' texts texts' files files' later' last' tokens' (RefusedAt number' place') head t f is' in
-    let unit : SameOutcome tokens tokens' middle later' between last' Ended (RefusedAt number' place') = law.one name texts files middle later' between last' tokens tokens' Ended (RefusedAt number' place') dt df is again in
+    let unit = one_unit held limit name texts files dt df is again in
     absurd (cc unit.ends)
-same_units held limit law _ _ _ _ _ _ _ _ _ _ _ _ _ _ (refused texts files later last names name tokens number place is) (none texts' files') t f n dt df = absurd (cc n)
-same_units held limit law _ _ _ _ _ _ _ _ _ _ _ _ _ _ (refused texts files later last names name tokens number place is) (next texts' files' middle' between' later' last' names' name' tokens' vs end' is' are') t f n dt df =
+same_units held limit _ _ _ _ _ _ _ _ _ _ _ _ _ _ (refused texts files later last names name tokens number place is) (none texts' files') t f n dt df = absurd (cc n)
+same_units held limit _ _ _ _ _ _ _ _ _ _ _ _ _ _ (refused texts files later last names name tokens number place is) (next texts' files' middle' between' later' last' names' name' tokens' vs end' is' are') t f n dt df =
     let head : name' ≡ name = cc n in
     let again = moved (Some held) limit name name' texts texts' files files' middle' between' tokens' Ended head t f is' in
-    let unit : SameOutcome tokens tokens' later middle' last between' (RefusedAt number place) Ended = law.one name texts files later middle' last between' tokens tokens' (RefusedAt number place) Ended dt df is again in
+    let unit = one_unit held limit name texts files dt df is again in
     absurd (cc unit.ends)
-same_units held limit law _ _ _ _ _ _ _ _ _ _ _ _ _ _ (refused texts files later last names name tokens number place is) (refused texts' files' later' last' names' name' tokens' number' place' is') t f n dt df =
+same_units held limit _ _ _ _ _ _ _ _ _ _ _ _ _ _ (refused texts files later last names name tokens number place is) (refused texts' files' later' last' names' name' tokens' number' place' is') t f n dt df =
     let head : name' ≡ name = cc n in
     let again = moved (Some held) limit name name' texts texts' files files' later' last' tokens' (RefusedAt number' place') head t f is' in
-    let unit : SameOutcome tokens tokens' later later' last last' (RefusedAt number place) (RefusedAt number' place') =
-    law.one name texts files later later' last last' tokens tokens' (RefusedAt number place) (RefusedAt number' place') dt df is again in
-    record { given = refl; texts = unit.texts; files = unit.files; ends = unit.ends }
+    let unit = one_unit held limit name texts files dt df is again in
+    record { given = refl; texts = unit.laters; files = unit.lasts; ends = unit.ends }
 
 -- ---- one outcome
 
@@ -135,20 +141,19 @@ end_once texts files us Ended status other text more (inl one) (inr two) = absur
 end_once texts files us Ended status other text more (inr one) (inl two) = absurd (never_both texts us us two.functions one.place two.are_read one.is_unread refl)
 end_once texts files us Ended status other text more (inr one) (inr two) = unread_once texts files us status other text more one two
 
-outcome_once : (held : List ℕ → Option (List ℕ)) → UnitsAreFunctional held most_names → (names : List (List ℕ)) (status other : Status) (text more : List ℕ) → IsOutcome (Some held) names status text → IsOutcome (Some held) names other more → Same status other text more
-outcome_once held law names status other text more one two =
-    let same : SameOutcome one.units two.units one.texts two.texts one.files two.files one.end two.end =
-    same_units held most_names law [] [] names one.texts one.files one.units one.end [] [] names two.texts two.files two.units two.end one.are_units two.are_units refl refl refl no_texts_are_distinct no_texts_are_distinct in
+outcome_once : (held : List ℕ → Option (List ℕ)) (names : List (List ℕ)) (status other : Status) (text more : List ℕ) → IsOutcome (Some held) names status text → IsOutcome (Some held) names other more → Same status other text more
+outcome_once held names status other text more one two =
+    let same : SameUnits one.units two.units one.texts two.texts one.files two.files one.end two.end =
+    same_units held most_names [] [] names one.texts one.files one.units one.end [] [] names two.texts two.files two.units two.end one.are_units two.are_units refl refl refl no_texts_are_distinct no_texts_are_distinct in
     end_once one.texts one.files one.units one.end status other text more one.is_end
     (subst (λ z. IsEndOf z one.files one.units one.end other more) same.texts
     (subst (λ z. IsEndOf two.texts z one.units one.end other more) same.files
     (subst (λ z. IsEndOf two.texts two.files z one.end other more) same.given
     (subst (λ z. IsEndOf two.texts two.files two.units z other more) same.ends two.is_end))))
 
--- given that each unit has one outcome
-pub one_outcome : (held : List ℕ → Option (List ℕ)) (words : List (List ℕ)) → UnitsAreFunctional held most_names → HasOneOutcome held words
-one_outcome held words law status other text more one two = go (files_of_words words) one two
+pub one_outcome : (held : List ℕ → Option (List ℕ)) (words : List (List ℕ)) → HasOneOutcome held words
+one_outcome held words status other text more one two = go (files_of_words words) one two
   where
     go : (asked : Option (List (List ℕ))) → IsAnswer (Some held) asked status text → IsAnswer (Some held) asked other more → Same status other text more
     go None one two = (one.0 ∙ sym two.0, one.1 ∙ sym two.1)
-    go (Some names) one two = outcome_once held law names status other text more one two
+    go (Some names) one two = outcome_once held names status other text more one two

@@ -2,7 +2,6 @@
 use Rattle.std.specs.Prelude.{◌≡◌, ℕ, ◌-◌, ◌^◌, ◌≤◌, List, [], ◌∷◌, ◌++◌, length, max, slice_get, Option, Some, map, Vec, Result, Ok, Err}
 use Rattle.sb_base.specs.declared.refusals.Place.{Place}
 use Rattle.sb_base.specs.declared.tokens.Token.{Token}
-use Rattle.sb_base.specs.Names.{IsDistinct}
 use Rattle.sb_base.specs.Outside.{Rose}
 use Rattle.sb_parse.specs.Read.{IsRefused}
 use Rattle.sb_prep.specs.Ending.{Ending, Ended, Refused}
@@ -54,22 +53,6 @@ pub data IsUnreadAt (texts : List (List ℕ)) : List (List Token) → Place → 
   here : (tokens : List Token) (units : List (List Token)) (at : Piece) → IsRefusedAt (pieces_of texts tokens) at → IsUnreadAt texts (tokens ∷ units) at.place
   behind : (tokens : List Token) (units : List (List Token)) (functions : List FunctionTree) (place : Place)
       → IsFile (pieces_of texts tokens) functions → IsUnreadAt texts units place → IsUnreadAt texts (tokens ∷ units) place
-
--- ---- one outcome
-
--- two outcomes are one: what is given, the tables of names and of files, and the ending
-pub record SameOutcome {A : Type 0} (one two : A) (later more last other : List (List ℕ)) (end ending : Ending) : Type 0 where
-  pub given : two ≡ one
-  pub texts : more ≡ later
-  pub files : other ≡ last
-  pub ends : ending ≡ end
-
--- A unit of a library that tells its content has one outcome, and where the texts of each table differ before it, they do so after it
-pub record UnitsAreFunctional (held : List ℕ → Option (List ℕ)) (limit : ℕ) : Type 0 where
-  pub one : (name : List ℕ) (texts files later more last other : List (List ℕ)) (ts us : List Token) (end ending : Ending) → IsDistinct texts → IsDistinct files
-      → IsUnit (Some held) limit name texts files ts later last end → IsUnit (Some held) limit name texts files us more other ending → SameOutcome ts us later more last other end ending
-  pub distinct : (name : List ℕ) (texts files later last : List (List ℕ)) (ts : List Token) (end : Ending) → IsDistinct texts → IsDistinct files
-      → IsUnit (Some held) limit name texts files ts later last end → IsDistinct later × IsDistinct last
 
 -- ---- what code answers
 

@@ -39,7 +39,6 @@ mod written;
 ghost use Rattle.std.specs.Prelude.{◌≡◌, ℕ, List, Option, Some, map, string_bytes};
 ghost use Rattle.sb_base.specs.Outside.{Rose};
 ghost use Rattle.sb_top.specs.Stands.{Stands};
-ghost use Rattle.sb_top.specs.Sets.{most_names, UnitsAreFunctional};
 ghost use Rattle.sb_top.specs.Outcomes.{IsDefined, HasOneOutcome, AreSafeIn};
 
 use answering::reply_to;
@@ -56,7 +55,7 @@ pub use syntax::{Comparison, Function, Param, ParamKind, Simple, Statement};
 /// `check FILE...` checks the functions of 1 to 256 files, each preprocessed to a unit of its own. Where it ends as
 /// `Clean`, each of them is safe: from each state that its annotations let in, no run follows a null or wild pointer,
 /// leaves its object or reads an unwritten byte. Over a library that tells its content, one text is defined for the
-/// words, under one status, where each unit has one outcome.
+/// words, under one status.
 #[tactic(auto, using(crate::proofs::OneOutcome::one_outcome))]
 pub fn prefast<L: Library, S: Sink>(
     alloc: Global,
@@ -66,7 +65,7 @@ pub fn prefast<L: Library, S: Sink>(
 ) -> Status
     ensures stands { Stands (IsDefined (L.held lib.old) (map string_bytes words.now)) (S.written out.old) (S.written out.new) result }
     ensures safe { result ≡ Status.Clean → (told : List ℕ → Option (List ℕ)) → L.held lib.old ≡ Some told → AreSafeIn told (map string_bytes words.now) }
-    ensures only { (told : List ℕ → Option (List ℕ)) → L.held lib.old ≡ Some told → UnitsAreFunctional told most_names → HasOneOutcome told (map string_bytes words.now) }
+    ensures only { (told : List ℕ → Option (List ℕ)) → L.held lib.old ≡ Some told → HasOneOutcome told (map string_bytes words.now) }
     ensures held { L.held lib.new ≡ L.held lib.old }
     ensures read_fault { result ≡ Status.ReadFault → Rose (L.faults lib.old) (L.faults lib.new) }
     ensures read_told { (result ≡ Status.ReadFault → ⊥) → L.faults lib.new ≡ L.faults lib.old }
