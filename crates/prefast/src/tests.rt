@@ -231,6 +231,41 @@ fn texts_that_are_refused(rt: HostRuntime) -> Result<(), Fail> {
     Ok(())
 }
 
+/// Macros of ten times ten times .. `1`, and a text of the 1,000,000 tokens that they give, and of one more.
+fn tenfold(alloc: Global) -> Result<String, AllocError> {
+    let mut text = String::from_str(alloc, "#define A0 1 1 1 1 1 1 1 1 1 1\n")?;
+    for level in 0..5u8 {
+        let tenth = format!(in alloc; " A{level}")?;
+        let all = tenth.as_str().repeat(alloc, 10)?;
+        let line = format!(in alloc; "#define A{}{all}\n", level + 1)?;
+        text.push_str(line.as_str())?;
+    }
+    text.push_str("A5 1\n")?;
+    Ok(text)
+}
+
+#[test]
+fn texts_one_past_a_limit(rt: HostRuntime) -> Result<(), Fail> {
+    let alloc = rt.alloc();
+    let tokens = tenfold(alloc)?;
+    let pieces = "a ".repeat(alloc, 1_000_001)?;
+    let bytes = " ".repeat(alloc, 4_194_305)?;
+    for (text, line) in [
+        (
+            pieces.as_str(),
+            "t.c:1:2000001: refused 5: too many pieces in a file\n",
+        ),
+        (tokens.as_str(), "t.c:7:4: refused 16: too many tokens\n"),
+        (bytes.as_str(), "t.c:0:0: refused 22: file too long\n"),
+    ] {
+        let files = [("t.c", text)];
+        let (answer, out) = checked(alloc, &files, &["t.c"], Vec::new(alloc), Vec::new(alloc))?;
+        assert_eq!(rt; answer, Status::Refused, "{line}");
+        assert_eq!(rt; out.bytes(), line.as_bytes(), "{line}");
+    }
+    Ok(())
+}
+
 #[test]
 fn a_text_and_its_header_cut_after_each_line(rt: HostRuntime) -> Result<(), Fail> {
     for (text, header, written) in CUT {
