@@ -1,0 +1,4 @@
+pub mod Signs
+pub mod Trees
+pub mod Plain
+pub mod Depths
