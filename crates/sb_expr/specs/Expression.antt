@@ -1,0 +1,125 @@
+-- Which lists of tokens are an expression or a type name, and the tree of each (C99 6.5, 6.7.6).
+use Rattle.std.specs.Prelude.{◌≡◌, ℕ, suc, Bool, true, false, List, [], ◌∷◌, ◌++◌, Option, Some}
+use Rattle.sb_base.specs.declared.interning.Name.{Name}
+use Rattle.sb_base.specs.declared.refusals.Place.{Place}
+use Rattle.sb_base.specs.declared.tokens.Token.{Token}
+use Rattle.sb_tree.specs.declared.operator.BinaryOp.{BinaryOp}
+use Rattle.sb_tree.specs.declared.operator.BinaryOp.TheVariants as binary
+use Rattle.sb_tree.specs.declared.operator.UnaryOp.{UnaryOp}
+use Rattle.sb_tree.specs.declared.sign.Keyword.{Keyword}
+use Rattle.sb_tree.specs.declared.sign.Keyword.TheVariants as keyword
+use Rattle.sb_tree.specs.declared.sign.Mark.TheVariants as mark
+use Rattle.sb_tree.specs.Plain.{expr_list}
+use Rattle.sb_tree.specs.Signs as sign
+use Rattle.sb_tree.specs.Trees as tree
+use Rattle.sb_tree.specs.Trees.{ExprTree, OptionalExpr, TypeTree}
+use Rattle.sb_expr.specs.declared.operators.Suffix.TheVariants as suffix
+use Rattle.sb_expr.specs.Lexicon.{Lexicon, is_mark, is_keyword, name_of, is_type_name, operand_of, operator_of, prefix_of, step_of, assignment_of, suffix_of}
+use Rattle.sb_expr.specs.Words.{Said, Nothing, Whole, Specifiers, unspecified, saying, constantly, said_after, type_specified}
+use Rattle.sb_expr.specs.Pieces.{Piece, Pointed, Arrayed, Grouped, constant_if, Declared, type_of}
+
+pub data Level : Type 0 where
+  Primary : Level
+  Postfix : Level
+  Prefix : Level
+  -- operators of this rank and of tighter ones; at 0 a cast
+  Infix : ℕ → Level
+  Conditional : Level
+  Assignment : Level
+  Sequence : Level
+
+-- ---- specifiers of a type name: words, qualifiers and one tag or typedef name
+
+pub data IsSpecifier (w : Lexicon) : Specifiers → List Token → Specifiers → Type 0 where
+  is_word : (s : Specifiers) (t : Token) (k : Keyword) (said : Said) → sign.keyword_of w.texts t ≡ Some k → said_after k t.place s.said ≡ Some said → IsSpecifier w s (t ∷ []) (saying said s)
+  is_constant : (s : Specifiers) (t : Token) → is_keyword w keyword.Const t ≡ true → IsSpecifier w s (t ∷ []) (constantly s)
+  is_restricted : (s : Specifiers) (t : Token) → is_keyword w keyword.Restrict t ≡ true → IsSpecifier w s (t ∷ []) s
+  is_structure : (s : Specifiers) (t n : Token) (tag : Name) → is_keyword w keyword.Struct t ≡ true → s.said ≡ Nothing → name_of w n ≡ Some tag
+      → IsSpecifier w s (t ∷ (n ∷ [])) (saying (Whole (tree.Struct (Some tag) tree.Undeclared n.place)) s)
+  is_enumeration : (s : Specifiers) (t n : Token) (tag : Name) → is_keyword w keyword.Enum t ≡ true → s.said ≡ Nothing → name_of w n ≡ Some tag
+      → IsSpecifier w s (t ∷ (n ∷ [])) (saying (Whole (tree.Enum (Some tag) tree.Unlisted n.place)) s)
+  is_defined : (s : Specifiers) (t : Token) → is_type_name w t ≡ true → s.said ≡ Nothing → IsSpecifier w s (t ∷ []) (saying (Whole (tree.Defined t.text t.place)) s)
+
+pub data AreSpecifiers (w : Lexicon) : Specifiers → List Token → Specifiers → Type 0 where
+  no_specifiers : (s : Specifiers) → AreSpecifiers w s [] s
+  more_specifiers : (s s' s'' : Specifiers) (xs ys : List Token) → IsSpecifier w s xs s' → AreSpecifiers w s' ys s'' → AreSpecifiers w s (xs ++ ys) s''
+
+-- the qualifiers behind a `*`, and whether `const` is among them
+pub data AreQualifiers (w : Lexicon) : Bool → List Token → Bool → Type 0 where
+  no_qualifiers : (c : Bool) → AreQualifiers w c [] c
+  constant : (c d : Bool) (t : Token) (ts : List Token) → is_keyword w keyword.Const t ≡ true → AreQualifiers w true ts d → AreQualifiers w c (t ∷ ts) d
+  restricted : (c d : Bool) (t : Token) (ts : List Token) → is_keyword w keyword.Restrict t ≡ true → AreQualifiers w c ts d → AreQualifiers w c (t ∷ ts) d
+
+-- ---- expressions and type names
+
+mutual
+  pub data IsExpr (w : Lexicon) : Level → List Token → ExprTree → Type 0 where
+    is_operand : (t : Token) (e : ExprTree) → operand_of w t ≡ Some e → IsExpr w Primary (t ∷ []) e
+    is_grouped : (o c : Token) (xs : List Token) (e : ExprTree) → is_mark w mark.OpenParenthesis o ≡ true → is_mark w mark.CloseParenthesis c ≡ true
+        → IsExpr w Sequence xs e → IsExpr w Primary (o ∷ (xs ++ (c ∷ []))) (tree.Paren e o.place)
+    is_primary : (xs : List Token) (e : ExprTree) → IsExpr w Primary xs e → IsExpr w Postfix xs e
+    is_indexed : (o c : Token) (at : Place) (xs ys : List Token) (e f : ExprTree) → suffix_of w o ≡ Some (suffix.Index at) → is_mark w mark.CloseBracket c ≡ true
+        → IsExpr w Postfix xs e → IsExpr w Sequence ys f → IsExpr w Postfix (xs ++ (o ∷ (ys ++ (c ∷ [])))) (tree.Index e f at)
+    is_called : (o c : Token) (at : Place) (xs ys : List Token) (e : ExprTree) (args : List ExprTree) → suffix_of w o ≡ Some (suffix.Call at) → is_mark w mark.CloseParenthesis c ≡ true
+        → IsExpr w Postfix xs e → AreArguments w ys args → IsExpr w Postfix (xs ++ (o ∷ (ys ++ (c ∷ [])))) (tree.Call e (expr_list args) at)
+    is_member : (o n : Token) (arrow : Bool) (at : Place) (name : Name) (xs : List Token) (e : ExprTree) → suffix_of w o ≡ Some (suffix.Member arrow at) → name_of w n ≡ Some name
+        → IsExpr w Postfix xs e → IsExpr w Postfix (xs ++ (o ∷ (n ∷ []))) (tree.Member e arrow name n.place at)
+    is_stepped : (t : Token) (op : UnaryOp) (at : Place) (xs : List Token) (e : ExprTree) → suffix_of w t ≡ Some (suffix.Step op at)
+        → IsExpr w Postfix xs e → IsExpr w Postfix (xs ++ (t ∷ [])) (tree.Unary op e at)
+    is_postfix : (xs : List Token) (e : ExprTree) → IsExpr w Postfix xs e → IsExpr w Prefix xs e
+    is_prefixed : (t : Token) (op : UnaryOp) (at : Place) (xs : List Token) (e : ExprTree) → prefix_of w t ≡ Some (op, at)
+        → IsExpr w (Infix 0) xs e → IsExpr w Prefix (t ∷ xs) (tree.Unary op e at)
+    is_stepping : (t : Token) (op : UnaryOp) (at : Place) (xs : List Token) (e : ExprTree) → step_of w t ≡ Some (op, at)
+        → IsExpr w Prefix xs e → IsExpr w Prefix (t ∷ xs) (tree.Unary op e at)
+    is_size_of_expr : (t : Token) (xs : List Token) (e : ExprTree) → is_keyword w keyword.SizeOf t ≡ true
+        → IsExpr w Prefix xs e → IsExpr w Prefix (t ∷ xs) (tree.SizeOfExpr e t.place)
+    is_size_of_type : (t o c : Token) (xs : List Token) (a : Declared) → is_keyword w keyword.SizeOf t ≡ true → is_mark w mark.OpenParenthesis o ≡ true → is_mark w mark.CloseParenthesis c ≡ true
+        → IsType w xs a → IsExpr w Prefix (t ∷ (o ∷ (xs ++ (c ∷ [])))) (tree.SizeOfType (type_of a) t.place)
+    is_uncast : (xs : List Token) (e : ExprTree) → IsExpr w Prefix xs e → IsExpr w (Infix 0) xs e
+    is_cast : (o c : Token) (xs ys : List Token) (a : Declared) (e : ExprTree) → is_mark w mark.OpenParenthesis o ≡ true → is_mark w mark.CloseParenthesis c ≡ true
+        → IsType w xs a → IsExpr w (Infix 0) ys e → IsExpr w (Infix 0) (o ∷ (xs ++ (c ∷ ys))) (tree.Cast (type_of a) e o.place)
+    is_tighter : (k : ℕ) (xs : List Token) (e : ExprTree) → IsExpr w (Infix k) xs e → IsExpr w (Infix (suc k)) xs e
+    is_binary : (k : ℕ) (t : Token) (op : BinaryOp) (at : Place) (xs ys : List Token) (e f : ExprTree) → operator_of w (suc k) t ≡ Some (op, at)
+        → IsExpr w (Infix (suc k)) xs e → IsExpr w (Infix k) ys f → IsExpr w (Infix (suc k)) (xs ++ (t ∷ ys)) (tree.Binary op e f at)
+    is_infix : (xs : List Token) (e : ExprTree) → IsExpr w (Infix 10) xs e → IsExpr w Conditional xs e
+    is_conditional : (q c : Token) (xs ys zs : List Token) (e f g : ExprTree) → is_mark w mark.Question q ≡ true → is_mark w mark.Colon c ≡ true
+        → IsExpr w (Infix 10) xs e → IsExpr w Sequence ys f → IsExpr w Conditional zs g → IsExpr w Conditional (xs ++ (q ∷ (ys ++ (c ∷ zs)))) (tree.Cond e f g q.place)
+    is_chosen : (xs : List Token) (e : ExprTree) → IsExpr w Conditional xs e → IsExpr w Assignment xs e
+    is_assignment : (t : Token) (op : Option BinaryOp) (at : Place) (xs ys : List Token) (e f : ExprTree) → assignment_of w t ≡ Some (op, at)
+        → IsExpr w Prefix xs e → IsExpr w Assignment ys f → IsExpr w Assignment (xs ++ (t ∷ ys)) (tree.Assign op e f at)
+    is_assigned : (xs : List Token) (e : ExprTree) → IsExpr w Assignment xs e → IsExpr w Sequence xs e
+    is_sequence : (t : Token) (xs ys : List Token) (e f : ExprTree) → is_mark w mark.Comma t ≡ true
+        → IsExpr w Sequence xs e → IsExpr w Assignment ys f → IsExpr w Sequence (xs ++ (t ∷ ys)) (tree.Binary binary.Comma e f t.place)
+
+  -- the arguments of a call
+  pub data AreArguments (w : Lexicon) : List Token → List ExprTree → Type 0 where
+    no_arguments : AreArguments w [] []
+    arguments : (xs : List Token) (es : List ExprTree) → AreSome w xs es → AreArguments w xs es
+
+  -- at least one expression, with commas between them
+  pub data AreSome (w : Lexicon) : List Token → List ExprTree → Type 0 where
+    one_argument : (xs : List Token) (e : ExprTree) → IsExpr w Assignment xs e → AreSome w xs (e ∷ [])
+    more_arguments : (t : Token) (xs ys : List Token) (es : List ExprTree) (e : ExprTree) → is_mark w mark.Comma t ≡ true
+        → AreSome w xs es → IsExpr w Assignment ys e → AreSome w (xs ++ (t ∷ ys)) (es ++ (e ∷ []))
+
+  pub data IsType (w : Lexicon) : List Token → Declared → Type 0 where
+    is_type : (xs ys : List Token) (s : Specifiers) (base : TypeTree) (ps : List Piece) → AreSpecifiers w unspecified xs s → type_specified s ≡ Some base
+        → IsAbstract w ys ps → IsType w (xs ++ ys) (record { base = base; pieces = ps })
+
+  -- a declarator without a name, which may be empty
+  pub data IsAbstract (w : Lexicon) : List Token → List Piece → Type 0 where
+    is_direct : (xs : List Token) (ps : List Piece) → IsDirect w xs ps → IsAbstract w xs ps
+    is_pointer : (t : Token) (c : Bool) (xs ys : List Token) (ps : List Piece) → is_mark w mark.Star t ≡ true → AreQualifiers w false xs c
+        → IsAbstract w ys ps → IsAbstract w (t ∷ (xs ++ ys)) (Pointed t.place ∷ constant_if c ps)
+
+  pub data IsDirect (w : Lexicon) : List Token → List Piece → Type 0 where
+    is_nothing_more : IsDirect w [] []
+    is_in_parentheses : (o c : Token) (xs : List Token) (p : Piece) (ps : List Piece) → is_mark w mark.OpenParenthesis o ≡ true → is_mark w mark.CloseParenthesis c ≡ true
+        → IsAbstract w xs (p ∷ ps) → IsDirect w (o ∷ (xs ++ (c ∷ []))) (Grouped o.place ∷ (p ∷ ps))
+    is_array : (o c : Token) (xs ys : List Token) (ps : List Piece) (size : OptionalExpr) → is_mark w mark.OpenBracket o ≡ true → is_mark w mark.CloseBracket c ≡ true
+        → IsDirect w xs ps → IsSize w ys size → IsDirect w (xs ++ (o ∷ (ys ++ (c ∷ [])))) (Arrayed size o.place ∷ ps)
+
+  -- what stands between the brackets of an array
+  pub data IsSize (w : Lexicon) : List Token → OptionalExpr → Type 0 where
+    no_size : IsSize w [] tree.NoExpr
+    a_size : (xs : List Token) (e : ExprTree) → IsExpr w Assignment xs e → IsSize w xs (tree.AnExpr e)

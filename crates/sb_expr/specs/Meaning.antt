@@ -1,0 +1,193 @@
+-- What the values of the readers in code stand for in the definitions, and what a reader in code owes the reader that it computes.
+use Rattle.std.specs.Prelude.{◌≡◌, ◌≤◌, ◌+◌, ℕ, List, length, map, reverse, Option, Some, None, Result, Ok, Err}
+use Rattle.std.specs.declared.alloc.Global.{Global}
+use Rattle.std.specs.declared.boxed.Box.{Box}
+use Rattle.sb_base.specs.declared.tokens.Token.{Token}
+use Rattle.sb_parse.specs.Parser.{Outcome, done, stop}
+use Rattle.sb_tree.specs.declared.syntax.Expr.{Expr}
+use Rattle.sb_tree.specs.Plain.{plain_expr, plain_exprs, plain_type, expr_list}
+use Rattle.sb_tree.specs.Trees as tree
+use Rattle.sb_tree.specs.Trees.{ExprTree, OptionalExpr, TypeTree, depth_of_expr, depth_of_exprs, depth_of_optional_expr, depth_of_decls, depth_of_type}
+use Rattle.sb_expr.specs.declared.declarators.Pieces.{Pieces}
+use Rattle.sb_expr.specs.declared.declarators.Size.{Size}
+use Rattle.sb_expr.specs.declared.expressions.Level as declared_level
+use Rattle.sb_expr.specs.declared.expressions.Level.TheVariants as level
+use Rattle.sb_expr.specs.declared.lexicon.Lexicon as declared_lexicon
+use Rattle.sb_expr.specs.declared.pieces.Piece as declared_piece
+use Rattle.sb_expr.specs.declared.pieces.Piece.TheVariants as piece
+use Rattle.sb_expr.specs.declared.postfix.ArgumentList.{ArgumentList}
+use Rattle.sb_expr.specs.declared.reading.Feature.{Feature}
+use Rattle.sb_expr.specs.declared.reading.Feature.TheVariants as feature
+use Rattle.sb_expr.specs.declared.reading.Found.{Found}
+use Rattle.sb_expr.specs.declared.reading.Read.{Read}
+use Rattle.sb_expr.specs.declared.reading.ReadFault.{ReadFault}
+use Rattle.sb_expr.specs.declared.reading.ReadFault.TheVariants.{Refused, Memory}
+use Rattle.sb_expr.specs.declared.reading.Reason.{Reason}
+use Rattle.sb_expr.specs.declared.reading.Reason.TheVariants as reason
+use Rattle.sb_expr.specs.declared.specifiers.Based.{Based}
+use Rattle.sb_expr.specs.declared.specifiers.Said as declared_said
+use Rattle.sb_expr.specs.declared.specifiers.Said.TheVariants as said
+use Rattle.sb_expr.specs.declared.specifiers.Specifiers as declared_specifiers
+use Rattle.sb_expr.specs.declared.type_names.NamedType.{NamedType}
+use Rattle.sb_expr.specs.Expression.{Level, Prefix, Infix, Conditional, Assignment, Sequence}
+use Rattle.sb_expr.specs.Lexicon.{Lexicon}
+use Rattle.sb_expr.specs.Pieces.{Piece, Constant, Pointed, Arrayed, Called, Grouped, depth_over, Declared, type_of}
+use Rattle.sb_expr.specs.Readers.{unexpected, too_deep, lacks, ExprReader, PieceReader, Parts, parts, declarators, size_at}
+use Rattle.sb_expr.specs.Words.{Said, Nothing, Words, Whole, Specifiers}
+
+-- what tokens are read by
+abbrev pub meant : declared_lexicon.Lexicon → Lexicon
+meant w = record { texts = w.names.now.texts; types = w.types.now; in_note = w.in_note }
+
+-- ---- refusals
+
+abbrev pub feature_number : Feature → ℕ
+feature_number feature.Floating = 1
+feature_number feature.Union = 2
+feature_number feature.BitField = 3
+feature_number feature.FunctionPointer = 4
+feature_number feature.VariableArray = 5
+feature_number feature.VariableArguments = 6
+feature_number feature.Volatile = 7
+feature_number feature.Complex = 8
+feature_number feature.OldDefinition = 9
+feature_number feature.BackwardGoto = 10
+feature_number feature.GotoIntoBlock = 11
+feature_number feature.PointerCast = 12
+feature_number feature.NumberCast = 13
+feature_number feature.StructByValue = 14
+feature_number feature.Designated = 15
+feature_number feature.CompoundLiteral = 16
+
+-- the number of a stop
+abbrev pub stop_number : Reason → ℕ
+stop_number reason.Unexpected = unexpected
+stop_number reason.TooDeep = too_deep
+stop_number (reason.Feature f) = lacks (feature_number f)
+
+-- memory may be wanting anywhere
+abbrev pub IsFault : {A : Type 0} → Outcome Token A → ReadFault → Type 0
+IsFault o (Refused reason left) = o ≡ stop (stop_number reason) left
+IsFault o Memory = Unit {0}
+
+abbrev pub StopsAt : ℕ → ℕ → ReadFault → Type 0
+StopsAt n left (Refused reason k) = (stop_number reason ≡ n) × (k ≡ left)
+StopsAt n left Memory = ⊥
+
+-- ---- what was read
+
+abbrev pub Gives : {A : Type 0} → Outcome Token A → Result (Read A) ReadFault → Type 0
+Gives o (Ok r) = o ≡ done r.value r.rest.now
+Gives o (Err e) = IsFault o e
+
+-- the same where the value stands for another
+abbrev pub GivesAs : {A B : Type 0} → (B → A) → Outcome Token A → Result (Read B) ReadFault → Type 0
+GivesAs plain o (Ok r) = o ≡ done (plain r.value) r.rest.now
+GivesAs plain o (Err e) = IsFault o e
+
+abbrev pub IsKnown : Found → Type 0
+IsKnown f = f.depth ≡ depth_of_expr (plain_expr f.tree.value)
+
+abbrev pub Reads : Outcome Token ExprTree → Result Found ReadFault → Type 0
+Reads o (Ok f) = (o ≡ done (plain_expr f.tree.value) f.rest.now) × IsKnown f
+Reads o (Err e) = IsFault o e
+
+-- ---- specifiers
+
+abbrev pub plain_said : declared_said.Said → Said
+plain_said said.Nothing = Nothing
+plain_said (said.Words v place) = Words v place
+plain_said (said.Struct tag place) = Whole (tree.Struct (Some tag) tree.Undeclared place)
+plain_said (said.Enum tag place) = Whole (tree.Enum (Some tag) tree.Unlisted place)
+plain_said (said.Defined name place) = Whole (tree.Defined name place)
+
+abbrev pub plain_specifiers : declared_specifiers.Specifiers → Specifiers
+plain_specifiers s = record { said = plain_said s.said; constant = s.constant }
+
+abbrev pub ReadsBase : Outcome Token TypeTree → Result Based ReadFault → Type 0
+ReadsBase o (Ok b) = (o ≡ done (plain_type b.tree.value) b.rest.now) × (b.depth ≡ depth_of_type (plain_type b.tree.value))
+ReadsBase o (Err e) = IsFault o e
+
+-- ---- declarators
+
+abbrev pub boxed_expr : Option (Box Expr Global) → OptionalExpr
+boxed_expr None = tree.NoExpr
+boxed_expr (Some e) = tree.AnExpr (plain_expr e.value)
+
+abbrev pub plain_piece : declared_piece.Piece → Piece
+plain_piece piece.Constant = Constant
+plain_piece (piece.Pointed place) = Pointed place
+plain_piece (piece.Arrayed size place) = Arrayed (boxed_expr size) place
+plain_piece (piece.Grouped place) = Grouped place
+
+-- pieces are held in the order of being read, the last one first on the type
+abbrev pub plain_pieces : List declared_piece.Piece → List Piece
+plain_pieces ps = map plain_piece (reverse ps)
+
+abbrev pub depth_of_piece : Piece → ℕ
+depth_of_piece (Arrayed size place) = depth_of_optional_expr size
+depth_of_piece (Called params place) = depth_of_decls params
+depth_of_piece _ = 0
+
+-- how deep the pieces make a type of no depth
+abbrev pub IsDeep : Pieces → Type 0
+IsDeep p = p.depth ≡ depth_over 0 (plain_pieces p.list.items)
+
+-- at most so many pieces, and no deeper than types of this depth with one more node
+abbrev pub IsSized : (below room : ℕ) → Pieces → Type 0
+IsSized below room p = (length p.list.items ≤ room) × (p.depth ≤ below + 1)
+
+abbrev pub ReadsPieces : Outcome Token (List Piece) → Result Pieces ReadFault → Type 0
+ReadsPieces o (Ok p) = (o ≡ done (plain_pieces p.list.items) p.rest.now) × IsDeep p
+ReadsPieces o (Err e) = IsFault o e
+
+abbrev pub ReadsSize : Outcome Token OptionalExpr → Result Size ReadFault → Type 0
+ReadsSize o (Ok s) = (o ≡ done (boxed_expr s.length) s.rest.now) × (s.depth ≡ depth_of_optional_expr (boxed_expr s.length))
+ReadsSize o (Err e) = IsFault o e
+
+abbrev pub plain_named : NamedType → Declared
+plain_named t = record { base = plain_type t.base.value; pieces = plain_pieces t.pieces.items }
+
+abbrev pub ReadsType : Outcome Token Declared → Result NamedType ReadFault → Type 0
+ReadsType o (Ok t) = (o ≡ done (plain_named t) t.rest.now) × (t.depth ≡ depth_of_type (type_of (plain_named t)))
+ReadsType o (Err e) = IsFault o e
+
+-- ---- expressions
+
+abbrev pub plain_found : Found → ExprTree
+plain_found f = plain_expr f.tree.value
+
+abbrev pub depth_of_list : List ExprTree → ℕ
+depth_of_list es = depth_of_exprs (expr_list es)
+
+abbrev pub IsListKnown : ArgumentList → Type 0
+IsListKnown a = a.depth ≡ depth_of_list (plain_exprs a.list.items)
+
+abbrev pub ReadsList : Outcome Token (List ExprTree) → Result ArgumentList ReadFault → Type 0
+ReadsList o (Ok a) = (o ≡ done (plain_exprs a.list.items) a.rest.now) × IsListKnown a
+ReadsList o (Err e) = IsFault o e
+
+abbrev pub plain_level : declared_level.Level → Level
+plain_level level.Prefix = Prefix
+plain_level (level.Infix k) = Infix k
+plain_level level.Conditional = Conditional
+plain_level level.Assignment = Assignment
+plain_level level.Sequence = Sequence
+
+abbrev pub rank_of : declared_level.Level → ℕ
+rank_of (level.Infix k) = k
+rank_of _ = 0
+
+-- ---- readers of one depth
+
+-- a reader whose parts may be so deep
+abbrev pub nested : {X : Type 0} → (Lexicon → ℕ → (ℕ → Parts) → X) → Lexicon → ℕ → X
+nested f w below = f w below (parts w below)
+
+-- the declarators with room for `room - k` pieces
+abbrev pub declared : Lexicon → (below room k : ℕ) → PieceReader
+declared w below = declarators w (nested size_at w below)
+
+-- a reader of a part of a declarator, over which so many pieces may stand
+abbrev pub piecewise : {X : Type 0} → (Lexicon → (ℕ → ExprReader) → ℕ → (ℕ → PieceReader) → X) → Lexicon → (below room : ℕ) → X
+piecewise f w below room = f w (nested size_at w below) room (declared w below room)

@@ -1,0 +1,451 @@
+//! Declarators without a name (C99 6.7.6).
+ghost use Rattle.std.specs.Prelude.{◌≡◌, ◌≤◌, ◌<◌, ◌+◌, ◌-◌, [], ◌∷◌, true, false, length, max, IfOk};
+ghost use Rattle.sb_parse.specs.Parser.{at_next, looped};
+ghost use Rattle.sb_expr.specs.Meaning.{meant, boxed_expr, declared, piecewise, plain_piece, plain_pieces, depth_of_piece, IsDeep, IsSized, Gives, ReadsPieces, ReadsSize};
+ghost use Rattle.sb_expr.specs.Expression as level;
+ghost use Rattle.sb_expr.specs.Parts.{enclosed, qualifier, sized};
+ghost use Rattle.sb_expr.specs.Pieces as pieces;
+ghost use Rattle.sb_expr.specs.Readers as spec;
+
+use crate::expressions::{Level, within};
+use crate::lexicon::{
+    Lexicon, begins_type, is_keyword, is_keyword_next, is_mark, is_mark_next, is_qualifier_next,
+};
+use crate::pieces::Piece;
+use crate::reading::{Feature, Read, ReadFault, take_keyword, take_mark};
+use sb_base::{Place, Token};
+use sb_tree::{Expr, Keyword, Mark};
+use std::alloc::{AllocError, Global};
+
+/// The pieces of a declarator, how deep they make a type of no depth, and the tokens after them.
+#[derive(Drop)]
+pub(crate) struct Pieces<'a> {
+    pub(crate) list: Vec<Piece>,
+    pub(crate) depth: u32,
+    pub(crate) rest: &'a [Token],
+}
+
+/// What stands between the brackets of an array, how deep it is, and the tokens after it.
+#[derive(Drop)]
+pub(crate) struct Size<'a> {
+    pub(crate) length: Option<Box<Expr>>,
+    pub(crate) depth: u32,
+    pub(crate) rest: &'a [Token],
+}
+
+impl<'a> Pieces<'a> {
+    fn none(alloc: Global, rest: &'a [Token]) -> Pieces<'a>
+        ensures list { result.list.items ≡ [] }
+        ensures depth { result.depth ≡ 0 }
+        ensures rest { result.rest.now ≡ rest.now }
+    {
+        Pieces {
+            list: Vec::new(alloc),
+            depth: 0,
+            rest,
+        }
+    }
+
+    /// With one more piece, in which an expression of this depth stands.
+    #[tactic(auto, using(crate::proofs::Lists::one_more_piece, crate::proofs::PieceDepths::depth_of_pushed))]
+    fn with(self, piece: Piece, size: u32, rest: &'a [Token]) -> Result<Pieces<'a>, AllocError>
+        requires known { IsDeep self }
+        requires size { size ≡ depth_of_piece (plain_piece piece) }
+        requires few { length self.list.items ≤ 300 }
+        requires shallow { size ≤ 300 }
+        ensures list { IfOk result (λ p. plain_pieces p.list.items ≡ plain_piece piece ∷ plain_pieces self.entry.list.items) }
+        ensures known { IfOk result (λ p. IsDeep p) }
+        ensures depth { IfOk result (λ p. p.depth ≡ max self.entry.depth (size + 1 + length self.entry.list.items)) }
+        ensures length { IfOk result (λ p. length p.list.items ≡ length self.entry.list.items + 1) }
+        ensures rest { IfOk result (λ p. p.rest.now ≡ rest.now) }
+    {
+        let count = self.list.len() as u32;
+        let mut list = self.list;
+        list.push(piece)?;
+        Ok(Pieces {
+            list,
+            depth: self.depth.max(size + 1 + count),
+            rest,
+        })
+    }
+}
+
+/// Whether a declarator without a name begins with the next token.
+fn is_abstract_next(lexicon: &Lexicon, tokens: &[Token]) -> bool
+    ensures { result ≡ at_next (spec.begins_abstract (meant lexicon.now)) tokens.now }
+{
+    match tokens.first() {
+        Some(token) => {
+            is_mark(lexicon, Mark::Star, token)
+                || is_mark(lexicon, Mark::OpenParenthesis, token)
+                || is_mark(lexicon, Mark::OpenBracket, token)
+        }
+        None => false,
+    }
+}
+
+/// Whether only a function type goes on with the next token, behind a parenthesis that has no declarator.
+fn is_parameter_next(lexicon: &Lexicon, tokens: &[Token]) -> bool
+    ensures { result ≡ at_next (spec.begins_parameters (meant lexicon.now)) tokens.now }
+{
+    match tokens.first() {
+        Some(token) => {
+            is_mark(lexicon, Mark::CloseParenthesis, token)
+                || begins_type(lexicon, token)
+                || is_keyword(lexicon, Keyword::Register, token)
+        }
+        None => false,
+    }
+}
+
+/// One qualifier behind a `*`. `room`: how many pieces may stand above the pointer.
+fn qualifier<'a>(
+    lexicon: &Lexicon,
+    constant: bool,
+    room: u32,
+    tokens: &'a [Token],
+) -> Result<Read<'a, bool>, ReadFault>
+    requires room { constant ≡ true → 0 < room }
+    ensures read { Gives (qualifier (meant lexicon.now) room constant tokens.now) result }
+    ensures room { IfOk result (λ r. r.value ≡ true → 0 < room) }
+{
+    if is_keyword_next(lexicon, Keyword::Const, tokens) {
+        if room == 0 {
+            return Err(ReadFault::too_deep(tokens));
+        }
+        let word = take_keyword(lexicon, Keyword::Const, tokens)?;
+        return Ok(Read {
+            value: true,
+            rest: word.rest,
+        });
+    }
+    if is_keyword_next(lexicon, Keyword::Restrict, tokens) {
+        let word = take_keyword(lexicon, Keyword::Restrict, tokens)?;
+        return Ok(Read {
+            value: constant,
+            rest: word.rest,
+        });
+    }
+    Err(ReadFault::lacks(Feature::Volatile, tokens))
+}
+
+/// As many qualifiers as there are, and whether `const` is among them.
+fn qualifiers<'a>(
+    lexicon: &Lexicon,
+    room: u32,
+    tokens: &'a [Token],
+) -> Result<Read<'a, bool>, ReadFault>
+    ensures read { Gives (looped (spec.is_qualifier (meant lexicon.now)) (qualifier (meant lexicon.now) room) false tokens.now) result }
+    ensures room { IfOk result (λ r. r.value ≡ true → 0 < room) }
+{
+    let mut found = Read {
+        value: false,
+        rest: tokens,
+    };
+    for _turn in 0..tokens.len() {
+        if !is_qualifier_next(lexicon, found.rest) {
+            return Ok(found);
+        }
+        found = qualifier(lexicon, found.value, room, found.rest)?;
+    }
+    Ok(found)
+}
+
+/// Pieces with a pointer before them, which may be constant.
+fn pointing<'a>(inner: Pieces<'a>, constant: bool, place: Place) -> Result<Pieces<'a>, AllocError>
+    requires known { IsDeep inner }
+    requires few { length inner.list.items ≤ 200 }
+    requires shallow { inner.depth ≤ 300 }
+    ensures list { IfOk result (λ p. plain_pieces p.list.items ≡ pieces.Pointed place ∷ pieces.constant_if constant (plain_pieces inner.entry.list.items)) }
+    ensures known { IfOk result (λ p. IsDeep p) }
+    ensures depth { IfOk result (λ p. p.depth ≡ max inner.entry.depth (spec.one_if constant + 1 + length inner.entry.list.items)) }
+    ensures length { IfOk result (λ p. length p.list.items ≡ length inner.entry.list.items + 1 + spec.one_if constant) }
+    ensures rest { IfOk result (λ p. p.rest.now ≡ inner.entry.rest.now) }
+{
+    let rest = inner.rest;
+    if !constant {
+        return inner.with(Piece::Pointed(place), 0, rest);
+    }
+    let qualified = inner.with(Piece::Constant, 0, rest)?;
+    qualified.with(Piece::Pointed(place), 0, rest)
+}
+
+/// How many pieces may stand above a pointer and its `const`, if it has one.
+fn room_behind(room: u32, constant: bool) -> u32
+    requires { constant ≡ true → 0 < room }
+    ensures { result ≡ room - spec.one_if constant }
+{
+    if constant { room - 1 } else { room }
+}
+
+#[cycle(expression)]
+#[tactic(auto, unfolding(crate::specs::Readers::pointed, crate::specs::Readers::qualifier))]
+fn pointed<'a>(
+    alloc: Global,
+    lexicon: &Lexicon,
+    below: u32,
+    room: u32,
+    tokens: &'a [Token],
+) -> Result<Pieces<'a>, ReadFault>
+    requires shallow { below < 200 }
+    requires room { room ≤ below }
+    ensures read { ReadsPieces (piecewise spec.pointed (meant lexicon.now) below room tokens.now) result }
+    ensures bounds { IfOk result (λ p. IsSized below (room + 1) p) }
+{
+    let star = take_mark(lexicon, Mark::Star, tokens)?;
+    let constant = qualifiers(lexicon, room, star.rest)?;
+    let left = room_behind(room, constant.value);
+    let inner = declarator(alloc, lexicon, below, left, constant.rest)?;
+    Ok(pointing(inner, constant.value, star.value.place)?)
+}
+
+/// What stands behind an opening parenthesis and begins a declarator.
+#[cycle(expression)]
+#[tactic(auto, unfolding(crate::specs::Readers::inside))]
+fn inside<'a>(
+    alloc: Global,
+    lexicon: &Lexicon,
+    opening: Token,
+    below: u32,
+    room: u32,
+    tokens: &'a [Token],
+) -> Result<Pieces<'a>, ReadFault>
+    requires shallow { below < 200 }
+    requires room { room ≤ below }
+    ensures read { ReadsPieces (piecewise spec.inside (meant lexicon.now) below room opening tokens.now) result }
+    ensures bounds { IfOk result (λ p. IsSized below (room + 1) p) }
+{
+    let inner = declarator(alloc, lexicon, below, room, tokens)?;
+    let close = take_mark(lexicon, Mark::CloseParenthesis, inner.rest)?;
+    Ok(inner.with(Piece::Grouped(opening.place), 0, close.rest)?)
+}
+
+#[cycle(expression)]
+#[tactic(auto, unfolding(crate::specs::Readers::in_parentheses))]
+fn in_parentheses<'a>(
+    alloc: Global,
+    lexicon: &Lexicon,
+    below: u32,
+    room: u32,
+    tokens: &'a [Token],
+) -> Result<Pieces<'a>, ReadFault>
+    requires shallow { below < 200 }
+    requires room { room ≤ below }
+    ensures read { ReadsPieces (piecewise spec.in_parentheses (meant lexicon.now) below room tokens.now) result }
+    ensures bounds { IfOk result (λ p. IsSized below (room + 1) p) }
+{
+    let open = take_mark(lexicon, Mark::OpenParenthesis, tokens)?;
+    if is_abstract_next(lexicon, open.rest) {
+        return inside(alloc, lexicon, open.value, below, room, open.rest);
+    }
+    if is_parameter_next(lexicon, open.rest) {
+        return Err(ReadFault::lacks(Feature::FunctionPointer, open.rest));
+    }
+    Err(ReadFault::unexpected(open.rest))
+}
+
+/// What stands between the brackets of an array over so many pieces.
+#[cycle(expression)]
+fn sized<'a>(
+    alloc: Global,
+    lexicon: &Lexicon,
+    count: u32,
+    below: u32,
+    tokens: &'a [Token],
+) -> Result<Size<'a>, ReadFault>
+    requires shallow { below < 200 }
+    requires few { count ≤ below }
+    ensures read { ReadsSize (sized (meant lexicon.now) (spec.expr_reader (meant lexicon.now) (below - count) level.Assignment) tokens.now) result }
+    ensures depth { IfOk result (λ s. s.depth ≤ below - count) }
+{
+    if is_mark_next(lexicon, Mark::CloseBracket, tokens) {
+        return Ok(Size {
+            length: None,
+            depth: 0,
+            rest: tokens,
+        });
+    }
+    let length = within(alloc, lexicon, Level::Assignment, below - count, tokens)?;
+    Ok(Size {
+        length: Some(length.tree),
+        depth: length.depth,
+        rest: length.rest,
+    })
+}
+
+/// One more array.
+#[cycle(expression)]
+#[tactic(auto, unfolding(crate::specs::Readers::arrayed), using(crate::proofs::Lists::count_of_pieces))]
+fn arrayed<'a>(
+    alloc: Global,
+    lexicon: &Lexicon,
+    first: Pieces<'a>,
+    below: u32,
+    room: u32,
+) -> Result<Pieces<'a>, ReadFault>
+    requires shallow { below < 200 }
+    requires room { room ≤ below }
+    requires known { IsDeep first }
+    requires bounds { IsSized below (room + 1) first }
+    ensures read { ReadsPieces (piecewise spec.arrayed (meant lexicon.now) below room (plain_pieces first.entry.list.items) first.entry.rest.now) result }
+    ensures bounds { IfOk result (λ p. IsSized below (room + 1) p) }
+{
+    if first.list.len() > room as usize {
+        return Err(ReadFault::too_deep(first.rest));
+    }
+    let count = first.list.len() as u32;
+    let open = take_mark(lexicon, Mark::OpenBracket, first.rest)?;
+    let size = sized(alloc, lexicon, count, below, open.rest)?;
+    let close = take_mark(lexicon, Mark::CloseBracket, size.rest)?;
+    let array = Piece::Arrayed(size.length, open.value.place);
+    Ok(first.with(array, size.depth, close.rest)?)
+}
+
+/// As many arrays as there are.
+#[cycle(expression)]
+fn arrays<'a>(
+    alloc: Global,
+    lexicon: &Lexicon,
+    first: Pieces<'a>,
+    below: u32,
+    room: u32,
+) -> Result<Pieces<'a>, ReadFault>
+    requires shallow { below < 200 }
+    requires room { room ≤ below }
+    requires known { IsDeep first }
+    requires bounds { IsSized below (room + 1) first }
+    ensures read { ReadsPieces (looped (spec.is_open_bracket (meant lexicon.now)) (piecewise spec.arrayed (meant lexicon.now) below room) (plain_pieces first.entry.list.items) first.entry.rest.now) result }
+    ensures bounds { IfOk result (λ p. IsSized below (room + 1) p) }
+{
+    let most = first.rest.len();
+    let mut found = first;
+    for _turn in 0..most {
+        if !is_mark_next(lexicon, Mark::OpenBracket, found.rest) {
+            return Ok(found);
+        }
+        found = arrayed(alloc, lexicon, found, below, room)?;
+    }
+    Ok(found)
+}
+
+/// Whether a function with these pieces put on it comes to a pointer to a function.
+#[tactic(auto, using(crate::proofs::Lists::one_more_piece))]
+fn points(list: &[Piece]) -> bool
+    ensures { result ≡ pieces.points (plain_pieces list.now) }
+{
+    match list.split_last() {
+        Some((Piece::Pointed(_place), _rest)) => true,
+        Some((Piece::Grouped(_place), rest)) => points(rest),
+        _ => false,
+    }
+}
+
+/// A declarator in parentheses, if there is one.
+#[cycle(expression)]
+fn enclosed<'a>(
+    alloc: Global,
+    lexicon: &Lexicon,
+    below: u32,
+    room: u32,
+    tokens: &'a [Token],
+) -> Result<Pieces<'a>, ReadFault>
+    requires shallow { below < 200 }
+    requires room { room ≤ below }
+    ensures read { ReadsPieces (piecewise enclosed (meant lexicon.now) below room tokens.now) result }
+    ensures bounds { IfOk result (λ p. IsSized below (room + 1) p) }
+{
+    if !is_mark_next(lexicon, Mark::OpenParenthesis, tokens) {
+        return Ok(Pieces::none(alloc, tokens));
+    }
+    if room == 0 {
+        return Err(ReadFault::too_deep(tokens));
+    }
+    in_parentheses(alloc, lexicon, below, room, tokens)
+}
+
+#[cycle(expression)]
+#[tactic(auto, unfolding(crate::specs::Readers::direct))]
+fn direct<'a>(
+    alloc: Global,
+    lexicon: &Lexicon,
+    below: u32,
+    room: u32,
+    tokens: &'a [Token],
+) -> Result<Pieces<'a>, ReadFault>
+    requires shallow { below < 200 }
+    requires room { room ≤ below }
+    ensures read { ReadsPieces (piecewise spec.direct (meant lexicon.now) below room tokens.now) result }
+    ensures bounds { IfOk result (λ p. IsSized below (room + 1) p) }
+{
+    let first = enclosed(alloc, lexicon, below, room, tokens)?;
+    let all = arrays(alloc, lexicon, first, below, room)?;
+    if is_call_next(lexicon, all.list.as_slice(), all.rest) {
+        return Err(ReadFault::lacks(Feature::FunctionPointer, all.rest));
+    }
+    Ok(all)
+}
+
+/// Whether an opening parenthesis makes a pointer to a function behind these pieces.
+fn is_call_next(lexicon: &Lexicon, list: &[Piece], tokens: &[Token]) -> bool
+    ensures { result ≡ at_next (spec.calls (meant lexicon.now) (plain_pieces list.now)) tokens.now }
+{
+    match tokens.first() {
+        Some(token) => points(list) && is_mark(lexicon, Mark::OpenParenthesis, token),
+        None => false,
+    }
+}
+
+#[cycle(expression)]
+#[tactic(auto, unfolding(crate::specs::Readers::abstract_declarator))]
+fn abstract_declarator<'a>(
+    alloc: Global,
+    lexicon: &Lexicon,
+    below: u32,
+    room: u32,
+    tokens: &'a [Token],
+) -> Result<Pieces<'a>, ReadFault>
+    requires shallow { below < 200 }
+    requires room { room ≤ below }
+    ensures read { ReadsPieces (piecewise spec.abstract_declarator (meant lexicon.now) below room tokens.now) result }
+    ensures bounds { IfOk result (λ p. IsSized below (room + 1) p) }
+{
+    if is_mark_next(lexicon, Mark::Star, tokens) {
+        return pointed(alloc, lexicon, below, room, tokens);
+    }
+    direct(alloc, lexicon, below, room, tokens)
+}
+
+/// A declarator without pieces.
+fn no_declarator<'a>(
+    alloc: Global,
+    lexicon: &Lexicon,
+    tokens: &'a [Token],
+) -> Result<Pieces<'a>, ReadFault>
+    ensures read { ReadsPieces (spec.no_declarator (meant lexicon.now) tokens.now) result }
+    ensures bounds { IfOk result (λ p. IsSized 0 0 p) }
+{
+    if is_abstract_next(lexicon, tokens) {
+        return Err(ReadFault::too_deep(tokens));
+    }
+    Ok(Pieces::none(alloc, tokens))
+}
+
+/// A declarator of at most `room` pieces. `below`: how deep the size of an array may be.
+#[cycle(expression)]
+pub(crate) fn declarator<'a>(
+    alloc: Global,
+    lexicon: &Lexicon,
+    below: u32,
+    room: u32,
+    tokens: &'a [Token],
+) -> Result<Pieces<'a>, ReadFault>
+    requires shallow { below < 200 }
+    requires room { room ≤ below + 1 }
+    ensures read { ReadsPieces (declared (meant lexicon.now) below room 0 tokens.now) result }
+    ensures bounds { IfOk result (λ p. IsSized below room p) }
+{
+    if room == 0 {
+        return no_declarator(alloc, lexicon, tokens);
+    }
+    abstract_declarator(alloc, lexicon, below, room - 1, tokens)
+}

@@ -1,0 +1,214 @@
+//! The steps that the readers of expressions and type names are made of.
+ghost use Rattle.std.specs.Prelude.{◌≡◌, length};
+ghost use Rattle.sb_parse.specs.Parser.{stop, taken, taken_as, token};
+ghost use Rattle.sb_expr.specs.declared.reading.ReadFault.TheVariants.{Memory};
+ghost use Rattle.sb_expr.specs.Lexicon as spec;
+ghost use Rattle.sb_expr.specs.Meaning.{meant, feature_number, Gives, StopsAt};
+ghost use Rattle.sb_expr.specs.Readers as reader;
+
+use crate::lexicon::{Lexicon, is_keyword, is_mark, is_type_name, name_of};
+use sb_base::{Name, Place, Token};
+use sb_tree::{Expr, Keyword, Mark};
+use std::alloc::{AllocError, AllocFailed};
+
+/// A feature that the language read here leaves out.
+#[derive(Clone, Copy, Debug, PartialEq, Eq)]
+pub enum Feature {
+    Floating,
+    Union,
+    BitField,
+    FunctionPointer,
+    VariableArray,
+    VariableArguments,
+    Volatile,
+    Complex,
+    OldDefinition,
+    BackwardGoto,
+    GotoIntoBlock,
+    PointerCast,
+    NumberCast,
+    StructByValue,
+    Designated,
+    CompoundLiteral,
+}
+
+/// Why no text goes on with a token.
+#[derive(Clone, Copy, Debug, PartialEq, Eq)]
+pub enum Reason {
+    /// No text at all does.
+    Unexpected,
+    /// Only a deeper one does.
+    TooDeep,
+    /// Only one with this feature does.
+    Feature(Feature),
+}
+
+/// Why tokens were not read.
+#[derive(Clone, Copy, Debug, PartialEq, Eq)]
+pub enum ReadFault {
+    /// No text goes on so: this many tokens are left from the first that does not fit, 0 at the end.
+    Refused { reason: Reason, left: usize },
+    Memory,
+}
+
+impl From<AllocError> for ReadFault {
+    ghost use Rattle.std.specs.Prelude.{◌≡◌};
+    ghost use Rattle.sb_expr.specs.declared.reading.ReadFault.TheVariants.{Memory};
+
+    ghost from_gives = { λ _ e. e ≡ Memory };
+
+    fn from(_e: AllocError) -> ReadFault {
+        ReadFault::Memory
+    }
+}
+
+impl<T: Drop> From<AllocFailed<T>> for ReadFault {
+    ghost use Rattle.std.specs.Prelude.{◌≡◌};
+    ghost use Rattle.sb_expr.specs.declared.reading.ReadFault.TheVariants.{Memory};
+
+    ghost from_gives = { λ _ e. e ≡ Memory };
+
+    fn from(_e: AllocFailed<T>) -> ReadFault {
+        ReadFault::Memory
+    }
+}
+
+impl ReadFault {
+    /// A token is missing.
+    pub(crate) fn at_end() -> ReadFault
+        ensures { StopsAt reader.unexpected 0 result }
+    {
+        ReadFault::Refused {
+            reason: Reason::Unexpected,
+            left: 0,
+        }
+    }
+
+    /// The first token does not fit, or one is missing.
+    pub(crate) fn unexpected(tokens: &[Token]) -> ReadFault
+        ensures { StopsAt reader.unexpected (length tokens.now) result }
+    {
+        ReadFault::Refused {
+            reason: Reason::Unexpected,
+            left: tokens.len(),
+        }
+    }
+
+    /// There is no room for what the first token begins.
+    pub(crate) fn too_deep(tokens: &[Token]) -> ReadFault
+        ensures { StopsAt reader.too_deep (length tokens.now) result }
+    {
+        ReadFault::Refused {
+            reason: Reason::TooDeep,
+            left: tokens.len(),
+        }
+    }
+
+    /// What the first token begins is left out.
+    pub(crate) fn lacks(feature: Feature, tokens: &[Token]) -> ReadFault
+        ensures { StopsAt (reader.lacks (feature_number feature)) (length tokens.now) result }
+    {
+        ReadFault::Refused {
+            reason: Reason::Feature(feature),
+            left: tokens.len(),
+        }
+    }
+}
+
+/// What was read, and the tokens after it.
+#[derive(Drop)]
+pub(crate) struct Read<'a, T> {
+    pub(crate) value: T,
+    pub(crate) rest: &'a [Token],
+}
+
+/// An expression, how deep its tree is, and the tokens after it.
+#[derive(Drop)]
+pub(crate) struct Found<'a> {
+    pub(crate) tree: Box<Expr>,
+    pub(crate) depth: u32,
+    pub(crate) rest: &'a [Token],
+}
+
+/// What the token before `rest` gives, which has to be something.
+pub(crate) fn take<'a, T>(value: Option<T>, rest: &'a [Token]) -> Result<Read<'a, T>, ReadFault>
+    ensures { Gives (taken_as reader.unexpected value rest.now) result }
+{
+    match value {
+        Some(value) => Ok(Read { value, rest }),
+        None => Err(ReadFault::Refused {
+            reason: Reason::Unexpected,
+            left: rest.len() + 1,
+        }),
+    }
+}
+
+/// The next token, which has to be this punctuator.
+pub(crate) fn take_mark<'a>(
+    lexicon: &Lexicon,
+    mark: Mark,
+    tokens: &'a [Token],
+) -> Result<Read<'a, Token>, ReadFault>
+    ensures { Gives (token reader.unexpected (spec.is_mark (meant lexicon.now) mark) tokens.now) result }
+{
+    match tokens.split_first() {
+        Some((first, rest)) if is_mark(lexicon, mark, first) => Ok(Read {
+            value: *first,
+            rest,
+        }),
+        _ => Err(ReadFault::unexpected(tokens)),
+    }
+}
+
+/// The next token, which has to be this keyword.
+pub(crate) fn take_keyword<'a>(
+    lexicon: &Lexicon,
+    keyword: Keyword,
+    tokens: &'a [Token],
+) -> Result<Read<'a, Token>, ReadFault>
+    ensures { Gives (token reader.unexpected (spec.is_keyword (meant lexicon.now) keyword) tokens.now) result }
+{
+    match tokens.split_first() {
+        Some((first, rest)) if is_keyword(lexicon, keyword, first) => Ok(Read {
+            value: *first,
+            rest,
+        }),
+        _ => Err(ReadFault::unexpected(tokens)),
+    }
+}
+
+fn member_of(lexicon: &Lexicon, token: &Token) -> Option<(Name, Place)>
+    ensures { result ≡ reader.member_of (meant lexicon.now) token.now }
+{
+    let name = name_of(lexicon, token)?;
+    Some((name, token.place))
+}
+
+/// The next token, which has to be the name of a member.
+pub(crate) fn take_member<'a>(
+    lexicon: &Lexicon,
+    tokens: &'a [Token],
+) -> Result<Read<'a, (Name, Place)>, ReadFault>
+    ensures { Gives (taken reader.unexpected (reader.member_of (meant lexicon.now)) tokens.now) result }
+{
+    match tokens.split_first() {
+        Some((token, rest)) => take(member_of(lexicon, token), rest),
+        None => Err(ReadFault::at_end()),
+    }
+}
+
+/// The next token, which has to be the name of a type.
+pub(crate) fn take_type_name<'a>(
+    lexicon: &Lexicon,
+    tokens: &'a [Token],
+) -> Result<Read<'a, Token>, ReadFault>
+    ensures { Gives (token reader.unexpected (spec.is_type_name (meant lexicon.now)) tokens.now) result }
+{
+    match tokens.split_first() {
+        Some((first, rest)) if is_type_name(lexicon, first) => Ok(Read {
+            value: *first,
+            rest,
+        }),
+        _ => Err(ReadFault::unexpected(tokens)),
+    }
+}
