@@ -117,11 +117,11 @@ module _ (w : Lexicon) where
   pub expr_read : (tokens : List Token) (next left now : ℕ) (result : Result Expr Stop) → IsExprRead w tokens next left now result
       → IsLongestRead (FitsExpr w left Sequence) (λ a e. a ≡ plain_expr e) tokens next now result
   expr_read tokens next left now (Ok e) is = (is.0, expr_longest left Sequence (drop next tokens) is.0 (drop now tokens) is.1, is.2)
-  expr_read tokens next left now (Err (Refused r)) is = (is.left, is.is.place, expr_refused left Sequence (drop next tokens) is.number is.left is.stops)
+  expr_read tokens next left now (Err (Refused r)) is = (is.number, is.left, is.is, expr_refused left Sequence (drop next tokens) is.number is.left is.stops)
   expr_read tokens next left now (Err Memory) is = tt
 
   pub type_read : (tokens : List Token) (next left now : ℕ) (result : Result TypeName Stop) → IsTypeRead w tokens next left now result
       → IsLongestRead (FitsType w left) (λ d t. type_of d ≡ plain_type t) tokens next now result
   type_read tokens next left now (Ok t) is = (is.0, type_longest left (drop next tokens) is.0 (drop now tokens) is.1, is.2)
-  type_read tokens next left now (Err (Refused r)) is = (is.left, is.is.place, type_refused left (drop next tokens) is.number is.left is.stops)
+  type_read tokens next left now (Err (Refused r)) is = (is.number, is.left, is.is, type_refused left (drop next tokens) is.number is.left is.stops)
   type_read tokens next left now (Err Memory) is = tt

@@ -5,7 +5,7 @@ use Rattle.std.specs.declared.boxed.Box.{Box}
 use Rattle.sb_base.specs.declared.tokens.Token.{Token}
 use Rattle.sb_parse.specs.Parser.{Outcome, done, stop}
 use Rattle.sb_tree.specs.declared.syntax.Expr.{Expr}
-use Rattle.sb_tree.specs.Plain.{plain_expr, plain_exprs, plain_type, expr_list}
+use Rattle.sb_tree.specs.Plain.{plain_expr, plain_exprs, plain_type, plain_decls, expr_list, decl_list}
 use Rattle.sb_tree.specs.Trees as tree
 use Rattle.sb_tree.specs.Trees.{ExprTree, OptionalExpr, TypeTree, depth_of_expr, depth_of_exprs, depth_of_optional_expr, depth_of_decls, depth_of_type}
 use Rattle.sb_expr.specs.declared.declarators.Pieces.{Pieces}
@@ -32,7 +32,7 @@ use Rattle.sb_expr.specs.declared.type_names.NamedType.{NamedType}
 use Rattle.sb_expr.specs.Expression.{Level, Prefix, Infix, Conditional, Assignment, Sequence}
 use Rattle.sb_expr.specs.Lexicon.{Lexicon}
 use Rattle.sb_expr.specs.Pieces.{Piece, Constant, Pointed, Arrayed, Called, Grouped, depth_over, Declared, type_of}
-use Rattle.sb_expr.specs.Readers.{unexpected, too_deep, lacks, ExprReader, PieceReader, Parts, parts, declarators, size_at}
+use Rattle.sb_expr.specs.Readers.{unexpected, too_deep, lacks, bad_arguments, bad_kind, unknown, unknown_before, misplaced, misplaced_before, too_many_parameters, ExprReader, PieceReader, Parts, parts, declarators, size_at}
 use Rattle.sb_expr.specs.Words.{Said, Nothing, Words, Whole, Specifiers}
 
 -- what tokens are read by
@@ -64,6 +64,13 @@ abbrev pub stop_number : Reason → ℕ
 stop_number reason.Unexpected = unexpected
 stop_number reason.TooDeep = too_deep
 stop_number (reason.Feature f) = lacks (feature_number f)
+stop_number reason.Arguments = bad_arguments
+stop_number (reason.ArgumentBefore count) = bad_kind count
+stop_number reason.UnknownAnnotation = unknown
+stop_number reason.UnknownAnnotationBefore = unknown_before
+stop_number reason.Misplaced = misplaced
+stop_number (reason.MisplacedBefore count) = misplaced_before count
+stop_number reason.TooManyParameters = too_many_parameters
 
 -- memory may be wanting anywhere
 abbrev pub IsFault : {A : Type 0} → Outcome Token A → ReadFault → Type 0
@@ -118,6 +125,7 @@ abbrev pub plain_piece : declared_piece.Piece → Piece
 plain_piece piece.Constant = Constant
 plain_piece (piece.Pointed place) = Pointed place
 plain_piece (piece.Arrayed size place) = Arrayed (boxed_expr size) place
+plain_piece (piece.Called params place) = Called (decl_list (plain_decls params.items)) place
 plain_piece (piece.Grouped place) = Grouped place
 
 -- pieces are held in the order of being read, the last one first on the type

@@ -54,6 +54,32 @@ complex = lacks 8
 abbrev pub compound_literal : ℕ
 compound_literal = lacks 16
 
+-- other arguments than an annotation takes
+abbrev pub bad_arguments : ℕ
+bad_arguments = 35
+
+-- an argument that began so many tokens before is of another kind
+abbrev pub bad_kind : ℕ → ℕ
+bad_kind count = 1000 + count
+
+-- a word that is no annotation, where it stands and one token behind it
+abbrev pub unknown : ℕ
+unknown = 36
+
+abbrev pub unknown_before : ℕ
+unknown_before = 2001
+
+-- an annotation that may not stand there, where it stands and so many tokens behind it
+abbrev pub misplaced : ℕ
+misplaced = 37
+
+abbrev pub misplaced_before : ℕ → ℕ
+misplaced_before count = 3000 + count
+
+-- a comma behind which a parameter too many begins
+abbrev pub too_many_parameters : ℕ
+too_many_parameters = 2000
+
 abbrev pub is_zero : ℕ → Bool
 is_zero zero = true
 is_zero (suc n) = false

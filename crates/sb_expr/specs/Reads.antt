@@ -1,5 +1,5 @@
 -- What reading an expression or a type name comes to, in the subject's words.
-use Rattle.std.specs.Prelude.{◌≡◌, ◌⊎◌, ℕ, ◌≤◌, ◌-◌, true, false, List, [], ◌∷◌, ◌++◌, length, drop, max, nat_lt, slice_get, Result, Ok, Err, if◌then◌else◌}
+use Rattle.std.specs.Prelude.{◌≡◌, ◌⊎◌, ℕ, ◌≤◌, ◌-◌, ◌+◌, ◌||◌, true, false, List, [], ◌∷◌, ◌++◌, length, drop, max, nat_eq, nat_lt, slice_get, Result, Ok, Err, if◌then◌else◌}
 use Rattle.std.specs.Option.{option_map_or}
 use Rattle.sb_base.specs.declared.interning.Name.{Name}
 use Rattle.sb_base.specs.declared.refusals.Place.{Place}
@@ -13,7 +13,7 @@ use Rattle.sb_tree.specs.declared.syntax.Expr.{Expr}
 use Rattle.sb_tree.specs.declared.syntax.TypeName.{TypeName}
 use Rattle.sb_tree.specs.Plain.{plain_expr, plain_type}
 use Rattle.sb_tree.specs.Trees.{ExprTree, depth_of_expr, depth_of_type}
-use Rattle.sb_expr.specs.Expression.{Level, Assignment, Sequence, IsExpr, IsType}
+use Rattle.sb_expr.specs.Expression.{Level, Sequence, IsExpr, IsType}
 use Rattle.sb_expr.specs.Lexicon.{Lexicon}
 use Rattle.sb_expr.specs.Pieces.{Declared, type_of}
 use Rattle.sb_expr.specs.Readers.{expr_reader, type_reader}
@@ -33,12 +33,23 @@ GoesOn Is front (t ∷ rest) = CanBegin Is (front ++ (t ∷ []))
 
 -- ---- refusals
 
--- the number of a refusal by that of a stop, and the feature that it names, or 0
+-- The number of a refusal by that of a stop. From 100 on a stop names a feature that is left out; from 1,000 on the tokens show that an argument that began so many tokens before is of another kind;
+-- 2,000 is a comma behind which a parameter too many begins; from 2,001 on the tokens show that a word so many tokens before is no annotation, and from 3,000 on that an annotation so many tokens before may not stand there.
 abbrev pub number_of : ℕ → ℕ
-number_of n = if nat_lt n 100 then n else 33
+number_of n = if nat_lt n 100 then n else (if nat_lt n 1000 then 33 else (if nat_lt n 2000 then 35 else (if nat_eq n 2000 then 38 else (if nat_lt n 3000 then 36 else 37))))
 
+-- the feature that a refusal names, or 0
 abbrev pub feature_of : ℕ → ℕ
-feature_of n = if nat_lt n 100 then 0 else n - 100
+feature_of n = if nat_lt n 100 || nat_lt 999 n then 0 else n - 100
+
+-- the tokens left at the place of a refusal, by those left where the stop was shown
+abbrev pub left_of : ℕ → ℕ → ℕ
+left_of n left =
+    if nat_lt n 1000 then left
+    else (if nat_lt n 2000 then left + (n - 1000)
+    else (if nat_eq n 2000 then left - 1
+    else (if nat_lt n 3000 then left + (n - 2000)
+    else left + (n - 3000))))
 
 abbrev pub nowhere : Place
 nowhere = record { file = 0; line = 0; col = 0 }
@@ -51,7 +62,7 @@ place_of tokens left = option_map_or (λ t. t.place) (slice_get tokens (length t
 pub record IsStop (tokens : List Token) (n left : ℕ) (r : Refusal) : Type 0 where
   pub number : r.number ≡ number_of n
   pub feature : r.feature ≡ feature_of n
-  pub place : r.place ≡ place_of tokens left
+  pub place : r.place ≡ place_of tokens (left_of n left)
 
 pub record IsRefusedBy {A : Type 0} (o : Outcome Token A) (tokens : List Token) (r : Refusal) : Type 0 where
   pub number : ℕ
@@ -76,10 +87,6 @@ note_lexicon texts types = record { texts = texts; types = types; in_note = true
 abbrev pub IsExprRead : Lexicon → List Token → (next left now : ℕ) → Result Expr Stop → Type 0
 IsExprRead w tokens next left now result = IsOutcome (λ a e. a ≡ plain_expr e) (expr_reader w left Sequence (drop next tokens)) tokens now result
 
--- the same of one without a comma
-abbrev pub IsNoteExprRead : Lexicon → List Token → (next left now : ℕ) → Result Expr Stop → Type 0
-IsNoteExprRead w tokens next left now result = IsOutcome (λ a e. a ≡ plain_expr e) (expr_reader w left Assignment (drop next tokens)) tokens now result
-
 abbrev pub IsTypeRead : Lexicon → List Token → (next left now : ℕ) → Result TypeName Stop → Type 0
 IsTypeRead w tokens next left now result = IsOutcome (λ a t. type_of a ≡ plain_type t) (type_reader w left (drop next tokens)) tokens now result
 
@@ -97,5 +104,5 @@ IsRefusedThere Is ts left = IsRefused Is ts left ⊎ HasNone Is ts left
 -- an answer is the longest text that fits; after a refusal no text that fits goes on with the token at its place
 abbrev pub IsLongestRead : {A E : Type 0} → (List Token → A → Type 0) → (A → E → Type 0) → List Token → (next now : ℕ) → Result E Stop → Type 0
 IsLongestRead Is gives tokens next now (Ok e) = (a : _) × IsLongest Is (drop next tokens) a (drop now tokens) × gives a e
-IsLongestRead Is gives tokens next now (Err (Refused r)) = (left : ℕ) × (r.place ≡ place_of tokens left) × IsRefusedThere Is (drop next tokens) left
+IsLongestRead Is gives tokens next now (Err (Refused r)) = (n : ℕ) × (left : ℕ) × IsStop tokens n left r × IsRefusedThere Is (drop next tokens) left
 IsLongestRead Is gives tokens next now (Err Memory) = Unit {0}

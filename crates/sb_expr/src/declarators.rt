@@ -19,22 +19,22 @@ use std::alloc::{AllocError, Global};
 
 /// The pieces of a declarator, how deep they make a type of no depth, and the tokens after them.
 #[derive(Drop)]
-pub(crate) struct Pieces<'a> {
-    pub(crate) list: Vec<Piece>,
-    pub(crate) depth: u32,
-    pub(crate) rest: &'a [Token],
+pub struct Pieces<'a> {
+    pub list: Vec<Piece>,
+    pub depth: u32,
+    pub rest: &'a [Token],
 }
 
 /// What stands between the brackets of an array, how deep it is, and the tokens after it.
 #[derive(Drop)]
-pub(crate) struct Size<'a> {
-    pub(crate) length: Option<Box<Expr>>,
-    pub(crate) depth: u32,
-    pub(crate) rest: &'a [Token],
+pub struct Size<'a> {
+    pub length: Option<Box<Expr>>,
+    pub depth: u32,
+    pub rest: &'a [Token],
 }
 
 impl<'a> Pieces<'a> {
-    fn none(alloc: Global, rest: &'a [Token]) -> Pieces<'a>
+    pub fn none(alloc: Global, rest: &'a [Token]) -> Pieces<'a>
         ensures list { result.list.items ≡ [] }
         ensures depth { result.depth ≡ 0 }
         ensures rest { result.rest.now ≡ rest.now }
@@ -48,7 +48,7 @@ impl<'a> Pieces<'a> {
 
     /// With one more piece, in which an expression of this depth stands.
     #[tactic(auto, using(crate::proofs::Lists::one_more_piece, crate::proofs::PieceDepths::depth_of_pushed))]
-    fn with(self, piece: Piece, size: u32, rest: &'a [Token]) -> Result<Pieces<'a>, AllocError>
+    pub fn with(self, piece: Piece, size: u32, rest: &'a [Token]) -> Result<Pieces<'a>, AllocError>
         requires known { IsDeep self }
         requires size { size ≡ depth_of_piece (plain_piece piece) }
         requires few { length self.list.items ≤ 300 }
@@ -130,7 +130,7 @@ fn qualifier<'a>(
 }
 
 /// As many qualifiers as there are, and whether `const` is among them.
-fn qualifiers<'a>(
+pub fn qualifiers<'a>(
     lexicon: &Lexicon,
     room: u32,
     tokens: &'a [Token],
@@ -152,7 +152,11 @@ fn qualifiers<'a>(
 }
 
 /// Pieces with a pointer before them, which may be constant.
-fn pointing<'a>(inner: Pieces<'a>, constant: bool, place: Place) -> Result<Pieces<'a>, AllocError>
+pub fn pointing<'a>(
+    inner: Pieces<'a>,
+    constant: bool,
+    place: Place,
+) -> Result<Pieces<'a>, AllocError>
     requires known { IsDeep inner }
     requires few { length inner.list.items ≤ 200 }
     requires shallow { inner.depth ≤ 300 }
@@ -171,7 +175,7 @@ fn pointing<'a>(inner: Pieces<'a>, constant: bool, place: Place) -> Result<Piece
 }
 
 /// How many pieces may stand above a pointer and its `const`, if it has one.
-fn room_behind(room: u32, constant: bool) -> u32
+pub fn room_behind(room: u32, constant: bool) -> u32
     requires { constant ≡ true → 0 < room }
     ensures { result ≡ room - spec.one_if constant }
 {
@@ -246,7 +250,7 @@ fn in_parentheses<'a>(
 
 /// What stands between the brackets of an array over so many pieces.
 #[cycle(expression)]
-fn sized<'a>(
+pub fn sized<'a>(
     alloc: Global,
     lexicon: &Lexicon,
     count: u32,
@@ -330,7 +334,7 @@ fn arrays<'a>(
 
 /// Whether a function with these pieces put on it comes to a pointer to a function.
 #[tactic(auto, using(crate::proofs::Lists::one_more_piece))]
-fn points(list: &[Piece]) -> bool
+pub fn points(list: &[Piece]) -> bool
     ensures { result ≡ pieces.points (plain_pieces list.now) }
 {
     match list.split_last() {
@@ -386,7 +390,7 @@ fn direct<'a>(
 }
 
 /// Whether an opening parenthesis makes a pointer to a function behind these pieces.
-fn is_call_next(lexicon: &Lexicon, list: &[Piece], tokens: &[Token]) -> bool
+pub fn is_call_next(lexicon: &Lexicon, list: &[Piece], tokens: &[Token]) -> bool
     ensures { result ≡ at_next (spec.calls (meant lexicon.now) (plain_pieces list.now)) tokens.now }
 {
     match tokens.first() {

@@ -1,8 +1,8 @@
 //! Expressions and type names at a place in a list of tokens.
-ghost use Rattle.std.specs.Prelude.{◌≡◌, ◌≤◌, length, drop, OnOk};
-ghost use Rattle.sb_expr.specs.Meaning.{meant, plain_level, rank_of, feature_number, stop_number};
-ghost use Rattle.sb_expr.specs.Readers.{expr_reader};
-ghost use Rattle.sb_expr.specs.Reads.{lexicon, note_lexicon, number_of, feature_of, place_of, IsOutcome, FitsExpr, FitsType, IsExprRead, IsLongestRead, IsNoteExprRead, IsTypeRead};
+ghost use Rattle.std.specs.Prelude.{◌≡◌, ◌≤◌, ◌+◌, length, drop, OnOk};
+ghost use Rattle.sb_parse.specs.Read.{HasOneTree};
+ghost use Rattle.sb_expr.specs.Meaning.{meant, feature_number, stop_number};
+ghost use Rattle.sb_expr.specs.Reads.{lexicon, number_of, feature_of, left_of, place_of, FitsExpr, FitsType, IsExprRead, IsLongestRead, IsTypeRead};
 ghost use Rattle.sb_expr.specs.Expression.{Sequence, IsExpr, IsType};
 ghost use Rattle.sb_expr.specs.Pieces.{type_of};
 ghost use Rattle.sb_expr.specs.Reasons.{HasReason};
@@ -23,6 +23,7 @@ impl Feature {
     fn number(self) -> u16
         ensures number { result ≡ feature_number self }
         ensures some { 1 ≤ result }
+        ensures few { result ≤ 16 }
     {
         match self {
             Feature::Floating => 1,
@@ -54,6 +55,10 @@ impl Reason {
             Reason::Unexpected => 31,
             Reason::TooDeep => 32,
             Reason::Feature(_feature) => 33,
+            Reason::Arguments | Reason::ArgumentBefore(_) => 35,
+            Reason::UnknownAnnotation | Reason::UnknownAnnotationBefore => 36,
+            Reason::Misplaced | Reason::MisplacedBefore(_) => 37,
+            Reason::TooManyParameters => 38,
         }
     }
 
@@ -62,8 +67,21 @@ impl Reason {
         ensures { result ≡ feature_of (stop_number self) }
     {
         match self {
-            Reason::Unexpected | Reason::TooDeep => 0,
             Reason::Feature(feature) => feature.number(),
+            _ => 0,
+        }
+    }
+
+    /// Where tokens are refused of which so many are left where it showed.
+    fn place(self, tokens: &[Token], left: usize) -> Place
+        ensures { result ≡ place_of tokens.now (left_of (stop_number self) left) }
+    {
+        match self {
+            Reason::ArgumentBefore(count) => place_before(tokens, left, count as usize),
+            Reason::UnknownAnnotationBefore => place_before(tokens, left, 1),
+            Reason::MisplacedBefore(count) => place_before(tokens, left, count),
+            Reason::TooManyParameters => place_at(tokens, left.saturating_sub(1)),
+            _ => place_at(tokens, left),
         }
     }
 }
@@ -82,33 +100,39 @@ fn place_at(tokens: &[Token], left: usize) -> Place
     }
 }
 
+/// So many tokens before those of which so many are left.
+fn place_before(tokens: &[Token], left: usize, before: usize) -> Place
+    ensures { result ≡ place_of tokens.now (left + before) }
+{
+    place_at(tokens, left.saturating_add(before))
+}
+
 /// A fault of a reader in a list of tokens, as a call answers it.
-fn stop_at(tokens: &[Token], fault: ReadFault) -> Stop
+pub fn stop_at(tokens: &[Token], fault: ReadFault) -> Stop
     ensures { IsStopBy tokens.now fault result }
 {
     match fault {
         ReadFault::Refused { reason, left } => Stop::Refused(Refusal {
             number: reason.number(),
-            place: place_at(tokens, left),
+            place: reason.place(tokens, left),
             feature: reason.feature(),
         }),
         ReadFault::Memory => Stop::Memory,
     }
 }
 
-fn tokens_from(tokens: &[Token], next: usize) -> &[Token]
+pub fn tokens_from(tokens: &[Token], next: usize) -> &[Token]
     requires { next ≤ length tokens.now }
     ensures { result.now ≡ drop next tokens.now }
 {
     &tokens[next..]
 }
 
-/// An expression of a level at a place, which moves behind it.
-fn expr_at(alloc: Global, lexicon: &Lexicon, level: Level, at: &mut Cursor) -> Result<Expr, Stop>
+/// An expression at a place, which moves behind it.
+fn expr_at(alloc: Global, lexicon: &Lexicon, at: &mut Cursor) -> Result<Expr, Stop>
     requires next { at.old.next ≤ length at.old.tokens.now }
     requires shallow { at.old.left ≤ 200 }
-    requires rank { rank_of level ≤ 10 }
-    ensures read { IsOutcome (λ a e. a ≡ plain_expr e) (expr_reader (meant lexicon.now) at.old.left (plain_level level) (drop at.old.next at.old.tokens.now)) at.old.tokens.now at.new.next result }
+    ensures read { IsExprRead (meant lexicon.now) at.old.tokens.now at.old.next at.old.left at.new.next result }
     ensures tokens { at.new.tokens ≡ at.old.tokens }
     ensures left { at.new.left ≡ at.old.left }
     ensures within { OnOk result ((at.old.next ≤ at.new.next) × (at.new.next ≤ length at.old.tokens.now)) }
@@ -116,7 +140,7 @@ fn expr_at(alloc: Global, lexicon: &Lexicon, level: Level, at: &mut Cursor) -> R
     match within(
         alloc,
         lexicon,
-        level,
+        Level::Sequence,
         at.left,
         tokens_from(at.tokens, at.next),
     ) {
@@ -129,13 +153,14 @@ fn expr_at(alloc: Global, lexicon: &Lexicon, level: Level, at: &mut Cursor) -> R
 }
 
 /// The expression with which tokens begin at a place, which moves behind it.
-#[tactic(auto, using(crate::proofs::Tying::expr_read))]
+#[tactic(auto, using(crate::proofs::Tying::expr_read, crate::proofs::Tying::one_expr))]
 pub fn expr(alloc: Global, names: &Names, scope: &Scope, at: &mut Cursor) -> Result<Expr, Stop>
     requires next { at.old.next ≤ length at.old.tokens.now }
     requires left { at.old.left ≤ 200 }
     ensures read { IsExprRead (lexicon names.now.texts scope.now.types.items) at.old.tokens.now at.old.next at.old.left at.new.next result }
     ensures longest { IsLongestRead (FitsExpr (lexicon names.now.texts scope.now.types.items) at.old.left Sequence) (λ a e. a ≡ plain_expr e) at.old.tokens.now at.old.next at.new.next result }
     ensures reason { HasReason (lexicon names.now.texts scope.now.types.items) (IsExpr (lexicon names.now.texts scope.now.types.items) Sequence) at.old.tokens.now at.old.next result }
+    ensures one { HasOneTree (IsExpr (lexicon names.now.texts scope.now.types.items) Sequence) }
     ensures tokens { at.new.tokens ≡ at.old.tokens }
     ensures left { at.new.left ≡ at.old.left }
     ensures within { OnOk result ((at.old.next ≤ at.new.next) × (at.new.next ≤ length at.old.tokens.now)) }
@@ -145,24 +170,7 @@ pub fn expr(alloc: Global, names: &Names, scope: &Scope, at: &mut Cursor) -> Res
         types: scope.types.as_slice(),
         in_note: false,
     };
-    expr_at(alloc, &lexicon, Level::Sequence, at)
-}
-
-/// The expression without a comma with which tokens begin in an annotation, where `return` is an operand.
-pub fn note_expr(alloc: Global, names: &Names, scope: &Scope, at: &mut Cursor) -> Result<Expr, Stop>
-    requires next { at.old.next ≤ length at.old.tokens.now }
-    requires left { at.old.left ≤ 200 }
-    ensures read { IsNoteExprRead (note_lexicon names.now.texts scope.now.types.items) at.old.tokens.now at.old.next at.old.left at.new.next result }
-    ensures tokens { at.new.tokens ≡ at.old.tokens }
-    ensures left { at.new.left ≡ at.old.left }
-    ensures within { OnOk result ((at.old.next ≤ at.new.next) × (at.new.next ≤ length at.old.tokens.now)) }
-{
-    let lexicon = Lexicon {
-        names,
-        types: scope.types.as_slice(),
-        in_note: true,
-    };
-    expr_at(alloc, &lexicon, Level::Assignment, at)
+    expr_at(alloc, &lexicon, at)
 }
 
 /// The type of a type name.
@@ -194,7 +202,7 @@ fn type_at(alloc: Global, lexicon: &Lexicon, at: &mut Cursor) -> Result<TypeName
 }
 
 /// The type name with which tokens begin at a place, which moves behind it.
-#[tactic(auto, using(crate::proofs::Tying::type_read))]
+#[tactic(auto, using(crate::proofs::Tying::type_read, crate::proofs::Tying::one_type))]
 pub fn type_name(
     alloc: Global,
     names: &Names,
@@ -206,6 +214,7 @@ pub fn type_name(
     ensures read { IsTypeRead (lexicon names.now.texts scope.now.types.items) at.old.tokens.now at.old.next at.old.left at.new.next result }
     ensures longest { IsLongestRead (FitsType (lexicon names.now.texts scope.now.types.items) at.old.left) (λ d t. type_of d ≡ plain_type t) at.old.tokens.now at.old.next at.new.next result }
     ensures reason { HasReason (lexicon names.now.texts scope.now.types.items) (IsType (lexicon names.now.texts scope.now.types.items)) at.old.tokens.now at.old.next result }
+    ensures one { HasOneTree (IsType (lexicon names.now.texts scope.now.types.items)) }
     ensures tokens { at.new.tokens ≡ at.old.tokens }
     ensures left { at.new.left ≡ at.old.left }
     ensures within { OnOk result ((at.old.next ≤ at.new.next) × (at.new.next ≤ length at.old.tokens.now)) }

@@ -18,7 +18,7 @@ use std::alloc::Global;
 
 /// Which expressions may stand somewhere.
 #[derive(Clone, Copy, Debug, PartialEq, Eq)]
-pub(crate) enum Level {
+pub enum Level {
     Prefix,
     /// Operators of this rank and of tighter ones; at 0 a cast.
     Infix(u8),
@@ -28,7 +28,7 @@ pub(crate) enum Level {
 }
 
 /// The refusal of an expression for which there is no room.
-pub(crate) fn no_room(lexicon: &Lexicon, tokens: &[Token]) -> ReadFault
+pub fn no_room(lexicon: &Lexicon, tokens: &[Token]) -> ReadFault
     ensures { IsFault (no_expr (meant lexicon.now) tokens.now) result }
 {
     if is_expr_next(lexicon, tokens) {
@@ -39,7 +39,7 @@ pub(crate) fn no_room(lexicon: &Lexicon, tokens: &[Token]) -> ReadFault
 
 /// An expression at most `left` deep.
 #[cycle(expression)]
-pub(crate) fn within<'a>(
+pub fn within<'a>(
     alloc: Global,
     lexicon: &Lexicon,
     level: Level,

@@ -11,10 +11,10 @@ use sb_tree::{Keyword, Mark};
 
 /// By what tokens are read: the table of names, the typedef names in force, and whether it is in an annotation.
 #[derive(Clone, Copy)]
-pub(crate) struct Lexicon<'a> {
-    pub(crate) names: &'a Names,
-    pub(crate) types: &'a [Name],
-    pub(crate) in_note: bool,
+pub struct Lexicon<'a> {
+    pub names: &'a Names,
+    pub types: &'a [Name],
+    pub in_note: bool,
 }
 
 /// Whether a name is in a list.
@@ -24,32 +24,32 @@ fn is_among(name: Name, names: &[Name]) -> bool
     names.iter().any(|other| name.0 == other.0)
 }
 
-pub(crate) fn is_mark(lexicon: &Lexicon, mark: Mark, token: &Token) -> bool
+pub fn is_mark(lexicon: &Lexicon, mark: Mark, token: &Token) -> bool
     ensures { result ≡ spec.is_mark (meant lexicon.now) mark token.now }
 {
     sb_tree::is_mark(lexicon.names, mark, token)
 }
 
-pub(crate) fn is_keyword(lexicon: &Lexicon, keyword: Keyword, token: &Token) -> bool
+pub fn is_keyword(lexicon: &Lexicon, keyword: Keyword, token: &Token) -> bool
     ensures { result ≡ spec.is_keyword (meant lexicon.now) keyword token.now }
 {
     sb_tree::is_keyword(lexicon.names, keyword, token)
 }
 
-pub(crate) fn name_of(lexicon: &Lexicon, token: &Token) -> Option<Name>
+pub fn name_of(lexicon: &Lexicon, token: &Token) -> Option<Name>
     ensures { result ≡ spec.name_of (meant lexicon.now) token.now }
 {
     sb_tree::name_of(lexicon.names, token)
 }
 
 /// Whether a name is that of a type.
-pub(crate) fn names_type(lexicon: &Lexicon, name: Name) -> bool
+pub fn names_type(lexicon: &Lexicon, name: Name) -> bool
     ensures { result ≡ spec.is_among name lexicon.now.types.now }
 {
     is_among(name, lexicon.types)
 }
 
-pub(crate) fn is_type_name(lexicon: &Lexicon, token: &Token) -> bool
+pub fn is_type_name(lexicon: &Lexicon, token: &Token) -> bool
     ensures { result ≡ spec.is_type_name (meant lexicon.now) token.now }
 {
     match name_of(lexicon, token) {
@@ -85,7 +85,7 @@ fn is_type_keyword(keyword: Keyword) -> bool
     )
 }
 
-pub(crate) fn is_type_word(lexicon: &Lexicon, token: &Token) -> bool
+pub fn is_type_word(lexicon: &Lexicon, token: &Token) -> bool
     ensures { result ≡ spec.is_type_word (meant lexicon.now) token.now }
 {
     match sb_tree::keyword_of(lexicon.names, token) {
@@ -94,13 +94,13 @@ pub(crate) fn is_type_word(lexicon: &Lexicon, token: &Token) -> bool
     }
 }
 
-pub(crate) fn begins_type(lexicon: &Lexicon, token: &Token) -> bool
+pub fn begins_type(lexicon: &Lexicon, token: &Token) -> bool
     ensures { result ≡ spec.begins_type (meant lexicon.now) token.now }
 {
     is_type_word(lexicon, token) || is_type_name(lexicon, token)
 }
 
-pub(crate) fn is_qualifier(lexicon: &Lexicon, token: &Token) -> bool
+pub fn is_qualifier(lexicon: &Lexicon, token: &Token) -> bool
     ensures { result ≡ reader.is_qualifier (meant lexicon.now) token.now }
 {
     is_keyword(lexicon, Keyword::Const, token)
@@ -110,7 +110,7 @@ pub(crate) fn is_qualifier(lexicon: &Lexicon, token: &Token) -> bool
 
 // ---- the next token
 
-pub(crate) fn is_mark_next(lexicon: &Lexicon, mark: Mark, tokens: &[Token]) -> bool
+pub fn is_mark_next(lexicon: &Lexicon, mark: Mark, tokens: &[Token]) -> bool
     ensures { result ≡ at_next (spec.is_mark (meant lexicon.now) mark) tokens.now }
 {
     match tokens.first() {
@@ -119,7 +119,7 @@ pub(crate) fn is_mark_next(lexicon: &Lexicon, mark: Mark, tokens: &[Token]) -> b
     }
 }
 
-pub(crate) fn is_keyword_next(lexicon: &Lexicon, keyword: Keyword, tokens: &[Token]) -> bool
+pub fn is_keyword_next(lexicon: &Lexicon, keyword: Keyword, tokens: &[Token]) -> bool
     ensures { result ≡ at_next (spec.is_keyword (meant lexicon.now) keyword) tokens.now }
 {
     match tokens.first() {
@@ -128,7 +128,7 @@ pub(crate) fn is_keyword_next(lexicon: &Lexicon, keyword: Keyword, tokens: &[Tok
     }
 }
 
-pub(crate) fn is_type_name_next(lexicon: &Lexicon, tokens: &[Token]) -> bool
+pub fn is_type_name_next(lexicon: &Lexicon, tokens: &[Token]) -> bool
     ensures { result ≡ at_next (spec.is_type_name (meant lexicon.now)) tokens.now }
 {
     match tokens.first() {
@@ -137,7 +137,7 @@ pub(crate) fn is_type_name_next(lexicon: &Lexicon, tokens: &[Token]) -> bool
     }
 }
 
-pub(crate) fn is_type_word_next(lexicon: &Lexicon, tokens: &[Token]) -> bool
+pub fn is_type_word_next(lexicon: &Lexicon, tokens: &[Token]) -> bool
     ensures { result ≡ at_next (spec.is_type_word (meant lexicon.now)) tokens.now }
 {
     match tokens.first() {
@@ -146,7 +146,7 @@ pub(crate) fn is_type_word_next(lexicon: &Lexicon, tokens: &[Token]) -> bool
     }
 }
 
-pub(crate) fn is_type_next(lexicon: &Lexicon, tokens: &[Token]) -> bool
+pub fn is_type_next(lexicon: &Lexicon, tokens: &[Token]) -> bool
     ensures { result ≡ at_next (spec.begins_type (meant lexicon.now)) tokens.now }
 {
     match tokens.first() {
@@ -155,7 +155,7 @@ pub(crate) fn is_type_next(lexicon: &Lexicon, tokens: &[Token]) -> bool
     }
 }
 
-pub(crate) fn is_qualifier_next(lexicon: &Lexicon, tokens: &[Token]) -> bool
+pub fn is_qualifier_next(lexicon: &Lexicon, tokens: &[Token]) -> bool
     ensures { result ≡ at_next (reader.is_qualifier (meant lexicon.now)) tokens.now }
 {
     match tokens.first() {
@@ -165,7 +165,7 @@ pub(crate) fn is_qualifier_next(lexicon: &Lexicon, tokens: &[Token]) -> bool
 }
 
 /// Whether the token after the next one can begin a type name.
-pub(crate) fn is_type_second(lexicon: &Lexicon, tokens: &[Token]) -> bool
+pub fn is_type_second(lexicon: &Lexicon, tokens: &[Token]) -> bool
     ensures { result ≡ at_second (spec.begins_type (meant lexicon.now)) tokens.now }
 {
     match tokens.split_first() {

@@ -56,18 +56,23 @@ fn is_operand(lexicon: &Lexicon, token: &Token) -> bool
     operand_of(lexicon, token).is_some()
 }
 
+/// Whether an expression can begin with a token.
+pub fn begins_expr(lexicon: &Lexicon, token: &Token) -> bool
+    ensures { result ≡ reader.begins_expr (meant lexicon.now) token.now }
+{
+    is_operand(lexicon, token)
+        || is_mark(lexicon, Mark::OpenParenthesis, token)
+        || is_prefix(lexicon, token)
+        || is_step(lexicon, token)
+        || is_keyword(lexicon, Keyword::SizeOf, token)
+}
+
 /// Whether an expression can begin with the next token.
-pub(crate) fn is_expr_next(lexicon: &Lexicon, tokens: &[Token]) -> bool
+pub fn is_expr_next(lexicon: &Lexicon, tokens: &[Token]) -> bool
     ensures { result ≡ at_next (reader.begins_expr (meant lexicon.now)) tokens.now }
 {
     match tokens.first() {
-        Some(token) => {
-            is_operand(lexicon, token)
-                || is_mark(lexicon, Mark::OpenParenthesis, token)
-                || is_prefix(lexicon, token)
-                || is_step(lexicon, token)
-                || is_keyword(lexicon, Keyword::SizeOf, token)
-        }
+        Some(token) => begins_expr(lexicon, token),
         None => false,
     }
 }

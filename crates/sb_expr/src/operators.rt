@@ -42,7 +42,8 @@ fn rank(op: BinaryOp) -> u8
     }
 }
 
-fn binary_at(mark: Mark) -> Option<BinaryOp>
+/// The operator between two operands that a mark is.
+pub fn binary_at(mark: Mark) -> Option<BinaryOp>
     ensures { result ≡ spec.binary_at mark }
 {
     match mark {
@@ -182,7 +183,7 @@ fn suffix_of(lexicon: &Lexicon, token: &Token) -> Option<Suffix>
 
 // ---- the next token
 
-pub(crate) fn is_operator_next(lexicon: &Lexicon, tighter: u8, tokens: &[Token]) -> bool
+pub fn is_operator_next(lexicon: &Lexicon, tighter: u8, tokens: &[Token]) -> bool
     requires { tighter < 10 }
     ensures { result ≡ at_next (reader.is_operator (meant lexicon.now) (suc tighter)) tokens.now }
 {
@@ -192,7 +193,7 @@ pub(crate) fn is_operator_next(lexicon: &Lexicon, tighter: u8, tokens: &[Token])
     }
 }
 
-pub(crate) fn is_prefix(lexicon: &Lexicon, token: &Token) -> bool
+pub fn is_prefix(lexicon: &Lexicon, token: &Token) -> bool
     ensures { result ≡ reader.is_prefix (meant lexicon.now) token.now }
 {
     prefix_of(lexicon, token).is_some()
@@ -207,7 +208,7 @@ pub(crate) fn is_prefix_next(lexicon: &Lexicon, tokens: &[Token]) -> bool
     }
 }
 
-pub(crate) fn is_step(lexicon: &Lexicon, token: &Token) -> bool
+pub fn is_step(lexicon: &Lexicon, token: &Token) -> bool
     ensures { result ≡ reader.is_step (meant lexicon.now) token.now }
 {
     step_of(lexicon, token).is_some()
@@ -222,21 +223,35 @@ pub(crate) fn is_step_next(lexicon: &Lexicon, tokens: &[Token]) -> bool
     }
 }
 
-pub(crate) fn is_suffix_next(lexicon: &Lexicon, tokens: &[Token]) -> bool
+/// Whether a token goes on from an operand.
+pub fn is_suffix(lexicon: &Lexicon, token: &Token) -> bool
+    ensures { result ≡ reader.is_suffix (meant lexicon.now) token.now }
+{
+    suffix_of(lexicon, token).is_some()
+}
+
+pub fn is_suffix_next(lexicon: &Lexicon, tokens: &[Token]) -> bool
     ensures { result ≡ at_next (reader.is_suffix (meant lexicon.now)) tokens.now }
 {
     match tokens.first() {
-        Some(token) => suffix_of(lexicon, token).is_some(),
+        Some(token) => is_suffix(lexicon, token),
         None => false,
     }
 }
 
+/// Whether a token is `=` or the like.
+pub fn is_assignment(lexicon: &Lexicon, token: &Token) -> bool
+    ensures { result ≡ is_some (spec.assignment_of (meant lexicon.now) token.now) }
+{
+    assignment_of(lexicon, token).is_some()
+}
+
 /// Whether the next token is `=` or the like.
-pub(crate) fn is_assignment_next(lexicon: &Lexicon, tokens: &[Token]) -> bool
+pub fn is_assignment_next(lexicon: &Lexicon, tokens: &[Token]) -> bool
     ensures { result ≡ at_next (λ t. is_some (spec.assignment_of (meant lexicon.now) t)) tokens.now }
 {
     match tokens.first() {
-        Some(token) => assignment_of(lexicon, token).is_some(),
+        Some(token) => is_assignment(lexicon, token),
         None => false,
     }
 }

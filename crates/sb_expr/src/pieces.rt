@@ -5,22 +5,24 @@ ghost use Rattle.sb_expr.specs.Pieces as spec;
 ghost use Rattle.sb_tree.specs.Plain.{plain_type};
 
 use sb_base::Place;
-use sb_tree::{Expr, TypeName};
+use sb_tree::{Decl, Expr, TypeName};
 use std::alloc::{AllocError, Global};
 
 /// What one step of a declarator makes of a type.
 #[derive(Drop)]
-pub(crate) enum Piece {
+pub enum Piece {
     /// `const` behind a `*`
     Constant,
     Pointed(Place),
     Arrayed(Option<Box<Expr>>, Place),
+    /// A function with these parameters.
+    Called(Vec<Decl>, Place),
     /// Parentheses around a declarator.
     Grouped(Place),
 }
 
 /// A type with one piece put on it.
-#[tactic(auto, unfolding(sb_tree::specs::Plain::plain_type, sb_tree::specs::Plain::plain_expr))]
+#[tactic(auto, unfolding(sb_tree::specs::Plain::plain_type, sb_tree::specs::Plain::plain_expr, sb_tree::specs::Plain::plain_decl))]
 fn put_on(alloc: Global, piece: Piece, of: Box<TypeName>) -> Result<Box<TypeName>, AllocError>
     ensures { IfOk result (λ t. plain_type t.value ≡ spec.put_on (plain_piece piece) (plain_type of.value)) }
 {
@@ -28,13 +30,18 @@ fn put_on(alloc: Global, piece: Piece, of: Box<TypeName>) -> Result<Box<TypeName
         Piece::Constant => TypeName::Const(of),
         Piece::Pointed(place) => TypeName::Pointer(of, place),
         Piece::Arrayed(length, place) => TypeName::Array { of, length, place },
+        Piece::Called(params, place) => TypeName::Function {
+            result: of,
+            params,
+            place,
+        },
         Piece::Grouped(place) => TypeName::Paren(of, place),
     };
     Ok(Box::new(alloc, node)?)
 }
 
 /// A type with pieces put on it, the last one first.
-pub(crate) fn typed(
+pub fn typed(
     alloc: Global,
     base: Box<TypeName>,
     pieces: Vec<Piece>,

@@ -3,7 +3,7 @@ ghost use Rattle.std.specs.Prelude.{◌≡◌, length};
 ghost use Rattle.sb_parse.specs.Parser.{stop, taken, taken_as, token};
 ghost use Rattle.sb_expr.specs.declared.reading.ReadFault.TheVariants.{Memory};
 ghost use Rattle.sb_expr.specs.Lexicon as spec;
-ghost use Rattle.sb_expr.specs.Meaning.{meant, feature_number, Gives, StopsAt};
+ghost use Rattle.sb_expr.specs.Meaning.{meant, feature_number, stop_number, Gives, StopsAt};
 ghost use Rattle.sb_expr.specs.Readers as reader;
 
 use crate::lexicon::{Lexicon, is_keyword, is_mark, is_type_name, name_of};
@@ -41,6 +41,20 @@ pub enum Reason {
     TooDeep,
     /// Only one with this feature does.
     Feature(Feature),
+    /// Only other arguments than the annotation takes do.
+    Arguments,
+    /// The token shows that the argument that began so many tokens before is of another kind.
+    ArgumentBefore(u8),
+    /// A word is no annotation.
+    UnknownAnnotation,
+    /// The token shows that the word before it is no annotation.
+    UnknownAnnotationBefore,
+    /// An annotation may not stand there.
+    Misplaced,
+    /// The token shows that the annotation so many tokens before may not stand there.
+    MisplacedBefore(usize),
+    /// Behind this comma a parameter too many begins.
+    TooManyParameters,
 }
 
 /// Why tokens were not read.
@@ -75,7 +89,7 @@ impl<T: Drop> From<AllocFailed<T>> for ReadFault {
 
 impl ReadFault {
     /// A token is missing.
-    pub(crate) fn at_end() -> ReadFault
+    pub fn at_end() -> ReadFault
         ensures { StopsAt reader.unexpected 0 result }
     {
         ReadFault::Refused {
@@ -85,7 +99,7 @@ impl ReadFault {
     }
 
     /// The first token does not fit, or one is missing.
-    pub(crate) fn unexpected(tokens: &[Token]) -> ReadFault
+    pub fn unexpected(tokens: &[Token]) -> ReadFault
         ensures { StopsAt reader.unexpected (length tokens.now) result }
     {
         ReadFault::Refused {
@@ -95,7 +109,7 @@ impl ReadFault {
     }
 
     /// There is no room for what the first token begins.
-    pub(crate) fn too_deep(tokens: &[Token]) -> ReadFault
+    pub fn too_deep(tokens: &[Token]) -> ReadFault
         ensures { StopsAt reader.too_deep (length tokens.now) result }
     {
         ReadFault::Refused {
@@ -105,7 +119,7 @@ impl ReadFault {
     }
 
     /// What the first token begins is left out.
-    pub(crate) fn lacks(feature: Feature, tokens: &[Token]) -> ReadFault
+    pub fn lacks(feature: Feature, tokens: &[Token]) -> ReadFault
         ensures { StopsAt (reader.lacks (feature_number feature)) (length tokens.now) result }
     {
         ReadFault::Refused {
@@ -113,25 +127,35 @@ impl ReadFault {
             left: tokens.len(),
         }
     }
+
+    /// The first token does not fit, for this reason.
+    pub fn at(reason: Reason, tokens: &[Token]) -> ReadFault
+        ensures { StopsAt (stop_number reason) (length tokens.now) result }
+    {
+        ReadFault::Refused {
+            reason,
+            left: tokens.len(),
+        }
+    }
 }
 
 /// What was read, and the tokens after it.
 #[derive(Drop)]
-pub(crate) struct Read<'a, T> {
-    pub(crate) value: T,
-    pub(crate) rest: &'a [Token],
+pub struct Read<'a, T> {
+    pub value: T,
+    pub rest: &'a [Token],
 }
 
 /// An expression, how deep its tree is, and the tokens after it.
 #[derive(Drop)]
-pub(crate) struct Found<'a> {
-    pub(crate) tree: Box<Expr>,
-    pub(crate) depth: u32,
-    pub(crate) rest: &'a [Token],
+pub struct Found<'a> {
+    pub tree: Box<Expr>,
+    pub depth: u32,
+    pub rest: &'a [Token],
 }
 
 /// What the token before `rest` gives, which has to be something.
-pub(crate) fn take<'a, T>(value: Option<T>, rest: &'a [Token]) -> Result<Read<'a, T>, ReadFault>
+pub fn take<'a, T>(value: Option<T>, rest: &'a [Token]) -> Result<Read<'a, T>, ReadFault>
     ensures { Gives (taken_as reader.unexpected value rest.now) result }
 {
     match value {
@@ -144,7 +168,7 @@ pub(crate) fn take<'a, T>(value: Option<T>, rest: &'a [Token]) -> Result<Read<'a
 }
 
 /// The next token, which has to be this punctuator.
-pub(crate) fn take_mark<'a>(
+pub fn take_mark<'a>(
     lexicon: &Lexicon,
     mark: Mark,
     tokens: &'a [Token],
@@ -161,7 +185,7 @@ pub(crate) fn take_mark<'a>(
 }
 
 /// The next token, which has to be this keyword.
-pub(crate) fn take_keyword<'a>(
+pub fn take_keyword<'a>(
     lexicon: &Lexicon,
     keyword: Keyword,
     tokens: &'a [Token],
@@ -185,7 +209,7 @@ fn member_of(lexicon: &Lexicon, token: &Token) -> Option<(Name, Place)>
 }
 
 /// The next token, which has to be the name of a member.
-pub(crate) fn take_member<'a>(
+pub fn take_member<'a>(
     lexicon: &Lexicon,
     tokens: &'a [Token],
 ) -> Result<Read<'a, (Name, Place)>, ReadFault>
@@ -198,7 +222,7 @@ pub(crate) fn take_member<'a>(
 }
 
 /// The next token, which has to be the name of a type.
-pub(crate) fn take_type_name<'a>(
+pub fn take_type_name<'a>(
     lexicon: &Lexicon,
     tokens: &'a [Token],
 ) -> Result<Read<'a, Token>, ReadFault>

@@ -21,7 +21,7 @@ use std::alloc::Global;
 
 /// What specifiers say of a type so far.
 #[derive(Clone, Copy, Debug)]
-pub(crate) enum Said {
+pub enum Said {
     Nothing,
     /// Words of an arithmetic type, from this place on.
     Words(TypeWords, Place),
@@ -46,14 +46,14 @@ pub(crate) struct Based<'a> {
 }
 
 impl Said {
-    fn is_nothing(self) -> bool
+    pub fn is_nothing(self) -> bool
         ensures { result ≡ words.is_nothing (plain_said self) }
     {
         matches!(self, Said::Nothing)
     }
 
     /// Whether `double` and `_Complex` may follow.
-    fn may_be_floating(self) -> bool
+    pub fn may_be_floating(self) -> bool
         ensures { result ≡ spec.may_be_floating (plain_said self) }
     {
         match self {
@@ -64,7 +64,7 @@ impl Said {
     }
 
     /// With one more word of an arithmetic type, which stands at this place.
-    fn with_word(self, word: Keyword, place: Place) -> Option<Said>
+    pub fn with_word(self, word: Keyword, place: Place) -> Option<Said>
         ensures { option_map plain_said result ≡ words.said_after word place (plain_said self) }
     {
         match self {
@@ -75,7 +75,7 @@ impl Said {
     }
 }
 
-pub(crate) fn is_floating_next(lexicon: &Lexicon, said: Said, tokens: &[Token]) -> bool
+pub fn is_floating_next(lexicon: &Lexicon, said: Said, tokens: &[Token]) -> bool
     ensures { result ≡ at_next (spec.is_floating (meant lexicon.now) (plain_said said)) tokens.now }
 {
     match tokens.first() {
@@ -87,7 +87,7 @@ pub(crate) fn is_floating_next(lexicon: &Lexicon, said: Said, tokens: &[Token]) 
     }
 }
 
-pub(crate) fn is_union_next(lexicon: &Lexicon, said: Said, tokens: &[Token]) -> bool
+pub fn is_union_next(lexicon: &Lexicon, said: Said, tokens: &[Token]) -> bool
     ensures { result ≡ at_next (spec.is_union (meant lexicon.now) (plain_said said)) tokens.now }
 {
     match tokens.first() {
@@ -96,7 +96,7 @@ pub(crate) fn is_union_next(lexicon: &Lexicon, said: Said, tokens: &[Token]) -> 
     }
 }
 
-pub(crate) fn is_complex_next(lexicon: &Lexicon, said: Said, tokens: &[Token]) -> bool
+pub fn is_complex_next(lexicon: &Lexicon, said: Said, tokens: &[Token]) -> bool
     ensures { result ≡ at_next (spec.is_complex (meant lexicon.now) (plain_said said)) tokens.now }
 {
     match tokens.first() {
@@ -109,7 +109,7 @@ pub(crate) fn is_complex_next(lexicon: &Lexicon, said: Said, tokens: &[Token]) -
     }
 }
 
-fn is_tag_word_next(lexicon: &Lexicon, said: Said, word: Keyword, tokens: &[Token]) -> bool
+pub fn is_tag_word_next(lexicon: &Lexicon, said: Said, word: Keyword, tokens: &[Token]) -> bool
     ensures { result ≡ at_next (spec.is_tag_word (meant lexicon.now) (plain_said said) word) tokens.now }
 {
     match tokens.first() {
@@ -118,7 +118,7 @@ fn is_tag_word_next(lexicon: &Lexicon, said: Said, word: Keyword, tokens: &[Toke
     }
 }
 
-fn names_type_next(lexicon: &Lexicon, said: Said, tokens: &[Token]) -> bool
+pub fn names_type_next(lexicon: &Lexicon, said: Said, tokens: &[Token]) -> bool
     ensures { result ≡ at_next (names_type (meant lexicon.now) (plain_said said)) tokens.now }
 {
     match tokens.first() {
