@@ -1,0 +1,30 @@
+use Rattle.std.proofs.Common.{◌≡◌, ◌≤◌, ◌+◌, ◌*◌, ◌-◌, length, not}
+use Rattle.sb_parse.specs.Parser.{loop}
+use Rattle.sb_expr.specs.Meaning.{meant}
+use Rattle.sb_declare.specs.Meaning.{plain_initialisers, AreInitialisersKnown}
+use Rattle.sb_declare.specs.Readers as spec
+use Rattle.sb_declare.proofs.initialisers.+initialising.Given as goal
+
+abbrev pub decreases-initialiser : goal.decreases-initialiser
+decreases-initialiser l = 10 * l.left
+
+abbrev pub decreases-initialiser_at : goal.decreases-initialiser_at
+decreases-initialiser_at l = 10 * l.below + 9
+
+abbrev pub decreases-braces : goal.decreases-braces
+decreases-braces l = 10 * l.below + 8
+
+abbrev pub decreases-more_initialisers : goal.decreases-more_initialisers
+decreases-more_initialisers l = 10 * l.below + 7
+
+abbrev pub decreases-next_initialiser : goal.decreases-next_initialiser
+decreases-next_initialiser l = 10 * l.below + 6
+
+abbrev pub invariant-more_initialisers-loop-turn : goal.invariant-more_initialisers-loop-turn
+invariant-more_initialisers-loop-turn l =
+    let w = meant l.fn.lexicon in
+    let turn = spec.next_initialiser w l.fn.below (spec.initialiser w l.fn.below) in
+    (loop (λ t. not (spec.is_close_brace w t)) turn (length l.fn.first.rest.now) (plain_initialisers l.fn.first) l.fn.first.rest.now
+    ≡ loop (λ t. not (spec.is_close_brace w t)) turn (l.most - l._turn) (plain_initialisers l.found) l.found.rest.now)
+    × AreInitialisersKnown l.found
+    × (l.found.depth ≤ l.fn.below)

@@ -1,0 +1,9 @@
+pub mod Specified
+pub mod Readers
+pub mod Declaration
+pub mod Declarators
+pub mod Meaning
+pub mod Parts
+pub mod Reads
+pub mod Reasons
+pub mod Openings

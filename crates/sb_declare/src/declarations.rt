@@ -1,0 +1,328 @@
+//! Declarations in a scope (C99 6.7).
+ghost use Rattle.std.specs.Prelude.{◌≡◌, ◌≤◌, ◌<◌, ◌+◌, [], ◌∷◌, IfOk, IfErr};
+ghost use Rattle.sb_expr.specs.declared.reading.ReadFault.TheVariants.{Memory};
+ghost use Rattle.sb_expr.specs.Meaning.{GivesAs};
+ghost use Rattle.sb_tree.specs.Plain.{plain_decl, plain_stmt, plain_type};
+ghost use Rattle.sb_tree.specs.Trees.{depth_of_type};
+ghost use Rattle.sb_declare.specs.Declarators.{plain_declarator};
+ghost use Rattle.sb_declare.specs.Meaning.{inside, plain_later, plain_specified, type_in, IsKnown, IsRoomy};
+ghost use Rattle.sb_declare.specs.Openings.{plain_counted, plain_declared, plain_opening};
+ghost use Rattle.sb_declare.specs.Openings as part;
+ghost use Rattle.sb_declare.specs.Readers as spec;
+ghost use Rattle.sb_declare.specs.Specified as specified;
+
+use crate::barring::barred;
+use crate::building::declaration_of;
+use crate::openings::{Opening, is_nameless_next, opening_within};
+use crate::seat::Seat;
+use crate::sharing::{
+    Counted, Listing, Shared, behind, declarator_on, declared_by, judged, next_declarators,
+    notes_again,
+};
+use crate::specified::Specified;
+use crate::tokens::take_mark;
+use sb_base::{Name, Names, Token};
+use sb_expr::{Lexicon, Read, ReadFault};
+use sb_sal::Bearer;
+use sb_tree::{Decl, Mark, Stmt, TypeName};
+use std::alloc::{AllocError, Global};
+
+/// Declarations in a scope, and the typedef names in force behind them.
+#[derive(Drop)]
+pub struct Declared {
+    pub list: Vec<Decl>,
+    pub types: Vec<Name>,
+}
+
+/// What the declarators of a declaration share.
+fn shared<'n, 'a>(opening: &Opening<'n, 'a>) -> Shared<'n, 'a>
+    ensures outer { result.outer.now ≡ opening.now.outer.now }
+    ensures tokens { result.tokens.now ≡ opening.now.tokens.now }
+    ensures noted { result.noted.now ≡ opening.now.noted.now }
+    ensures storage { result.storage ≡ specified.storage_of (plain_specified opening.now.specified) }
+    ensures later { plain_later result.later ≡ specified.again (type_in (plain_specified opening.now.specified)) }
+    ensures constant { specified.one_if result.later.constant ≤ specified.one_if opening.now.specified.constant }
+{
+    Shared {
+        outer: opening.outer,
+        tokens: opening.tokens,
+        noted: opening.noted,
+        storage: opening.specified.storage(),
+        later: opening.specified.later(),
+    }
+}
+
+/// How deep the type is that specifiers name.
+fn depth_of(specified: &Specified) -> u32
+    requires known { IsKnown specified.now }
+    requires shallow { specified.now.depth ≤ 200 }
+    ensures { result ≡ depth_of_type (type_in (plain_specified specified.now)) }
+{
+    if specified.constant {
+        specified.depth + 1
+    } else {
+        specified.depth
+    }
+}
+
+/// The first declarator of a declaration.
+pub fn first_declarator<'a>(
+    alloc: Global,
+    names: &Names,
+    below: u32,
+    opening: &Opening,
+    tokens: &'a [Token],
+) -> Result<Read<'a, Counted>, ReadFault>
+    requires shallow { below < 200 }
+    requires known { IsKnown opening.now.specified }
+    requires fits { IsRoomy below opening.now.specified }
+    ensures read { GivesAs (plain_counted opening.now.specified.types.items) (part.first_declarator names.now.texts below (plain_opening names.now.texts below opening.now) tokens.now) result }
+{
+    let lexicon = Lexicon {
+        names,
+        types: opening.specified.types.as_slice(),
+        in_note: false,
+    };
+    let depth = depth_of(&opening.specified);
+    let common = shared(opening);
+    declarator_on(
+        alloc,
+        &lexicon,
+        below,
+        &common,
+        depth,
+        opening.count,
+        tokens,
+    )
+}
+
+/// One declaration alone.
+fn alone(alloc: Global, tree: Decl, types: Vec<Name>) -> Result<Declared, AllocError>
+    ensures { IfOk result (λ ds. plain_declared ds ≡ record { list = plain_decl tree ∷ []; types = types.items }) }
+{
+    let mut list = Vec::new(alloc);
+    list.push(tree)?;
+    Ok(Declared { list, types })
+}
+
+/// The declarations of one whose first declarator was read.
+fn rest_behind<'a>(
+    alloc: Global,
+    names: &Names,
+    below: u32,
+    shared: &Shared,
+    base: Box<TypeName>,
+    types: Vec<Name>,
+    first: Read<'a, Counted>,
+) -> Result<Read<'a, Declared>, ReadFault>
+    requires shallow { below < 200 }
+    requires fits { 1 + specified.one_if shared.now.later.constant ≤ below }
+    ensures read { GivesAs plain_declared (part.rest_behind names.now.texts below shared.now (plain_type base.value) types.items (plain_counted types.items first.entry.value) first.entry.rest.now) result }
+{
+    let none = Listing {
+        list: Vec::new(alloc),
+        types,
+        count: 0,
+    };
+    let start = behind(alloc, names, below, shared, base, none, first)?;
+    let all = next_declarators(alloc, names, below, shared, start)?;
+    let end = take_mark(names, Mark::Semicolon, all.rest)?;
+    Ok(Read {
+        value: Declared {
+            list: all.value.list,
+            types: all.value.types,
+        },
+        rest: end.rest,
+    })
+}
+
+/// The rest of a declaration behind its first declarator.
+pub fn rest_of_declaration<'a>(
+    alloc: Global,
+    names: &Names,
+    below: u32,
+    opening: Opening,
+    first: Counted,
+    tokens: &'a [Token],
+) -> Result<Read<'a, Declared>, ReadFault>
+    requires shallow { below < 200 }
+    requires known { IsKnown opening.specified }
+    requires fits { IsRoomy below opening.specified }
+    ensures read { GivesAs plain_declared (inside spec.rest_of_declaration names.now.texts below (plain_opening names.now.texts below opening.entry) (plain_counted opening.entry.specified.types.items first) tokens.now) result }
+{
+    let common = shared(&opening);
+    let specified = opening.specified;
+    let base = specified
+        .said
+        .based(alloc, specified.depth, specified.constant)?;
+    let found = Read {
+        value: first,
+        rest: tokens,
+    };
+    rest_behind(
+        alloc,
+        names,
+        below,
+        &common,
+        base.tree,
+        specified.types,
+        found,
+    )
+}
+
+/// What stands behind the specifiers of a declaration without a name.
+fn nameless_behind<'a>(
+    alloc: Global,
+    names: &Names,
+    below: u32,
+    shared: &Shared,
+    specified: Specified,
+    count: usize,
+    tokens: &'a [Token],
+) -> Result<Read<'a, Declared>, ReadFault>
+    requires shallow { below < 200 }
+    requires known { IsKnown specified }
+    requires fits { IsRoomy below specified }
+    ensures read { GivesAs plain_declared (part.nameless_behind names.now.texts below shared.now (plain_specified specified) count tokens.now) result }
+{
+    let judged = judged(alloc, names, below, shared, Bearer::Object, count, tokens)?;
+    let end = take_mark(names, Mark::Semicolon, judged.rest)?;
+    let notes = notes_again(alloc, names, below, shared)?;
+    let place = specified.said.place();
+    let base = specified
+        .said
+        .based(alloc, specified.depth, specified.constant)?;
+    let type_name = Box::into_inner(base.tree);
+    let tree = Decl::new(notes, shared.storage, type_name, None, place, None, None);
+    Ok(Read {
+        value: alone(alloc, tree, specified.types)?,
+        rest: end.rest,
+    })
+}
+
+/// A declaration that declares no name: at the first token of its specifiers.
+pub fn nameless<'a>(
+    alloc: Global,
+    names: &Names,
+    below: u32,
+    opening: Opening,
+    tokens: &'a [Token],
+) -> Result<Read<'a, Declared>, ReadFault>
+    requires shallow { below < 200 }
+    requires known { IsKnown opening.specified }
+    requires fits { IsRoomy below opening.specified }
+    ensures read { GivesAs plain_declared (part.nameless names.now.texts below (plain_opening names.now.texts below opening.entry) tokens.now) result }
+{
+    let common = shared(&opening);
+    let count = opening.count;
+    nameless_behind(
+        alloc,
+        names,
+        below,
+        &common,
+        opening.specified,
+        count,
+        tokens,
+    )
+}
+
+/// A declaration whose parts are at most `below` deep.
+#[tactic(auto, unfolding(crate::specs::Readers::declaration_at))]
+fn declaration_at<'a>(
+    alloc: Global,
+    names: &Names,
+    types: &[Name],
+    below: u32,
+    tokens: &'a [Token],
+) -> Result<Read<'a, Declared>, ReadFault>
+    requires shallow { below < 200 }
+    requires some { 1 ≤ below }
+    ensures read { GivesAs plain_declared (inside spec.declaration_at names.now.texts below types.now tokens.now) result }
+{
+    let lexicon = Lexicon {
+        names,
+        types,
+        in_note: false,
+    };
+    let opening = opening_within(alloc, names, types, below, tokens)?;
+    if is_nameless_next(&lexicon, opening.rest) {
+        return nameless(alloc, names, below, opening.value, opening.rest);
+    }
+    let first = first_declarator(alloc, names, below, &opening.value, opening.rest)?;
+    rest_of_declaration(alloc, names, below, opening.value, first.value, first.rest)
+}
+
+/// A declaration that is at most `left` deep, where these typedef names are in force.
+pub fn declaration<'a>(
+    alloc: Global,
+    names: &Names,
+    types: &[Name],
+    left: u32,
+    tokens: &'a [Token],
+) -> Result<Read<'a, Declared>, ReadFault>
+    requires shallow { left ≤ 200 }
+    ensures read { GivesAs plain_declared (spec.declaration_reader names.now.texts left types.now tokens.now) result }
+{
+    if left < 2 {
+        let lexicon = Lexicon {
+            names,
+            types,
+            in_note: false,
+        };
+        return Err(barred(&lexicon, Seat::Scope, tokens));
+    }
+    declaration_at(alloc, names, types, left - 1, tokens)
+}
+
+// ---- definitions of functions
+
+/// The definition of a function with this body. Nothing is left but want of memory.
+pub fn definition(
+    alloc: Global,
+    names: &Names,
+    below: u32,
+    opening: Opening,
+    first: Counted,
+    body: Stmt,
+) -> Result<Declared, ReadFault>
+    requires shallow { below < 200 }
+    requires known { IsKnown opening.specified }
+    requires fits { IsRoomy below opening.specified }
+    ensures value { IfOk result (λ ds. plain_declared ds ≡ part.definition names.now.texts below (plain_opening names.now.texts below opening.entry) (plain_counted opening.entry.specified.types.items first).0 (plain_stmt body)) }
+    ensures memory { IfErr result (λ e. e ≡ Memory) }
+{
+    let common = shared(&opening);
+    let notes = notes_again(alloc, names, below, &common)?;
+    let specified = opening.specified;
+    let declarator = first.declarator;
+    let types = declared_by(common.storage, declarator.name, specified.types)?;
+    let base = specified
+        .said
+        .based(alloc, specified.depth, specified.constant)?;
+    let tree = declaration_of(
+        alloc,
+        notes,
+        common.storage,
+        base.tree,
+        declarator,
+        None,
+        Some(body),
+    )?;
+    Ok(alone(alloc, tree, types)?)
+}
+
+/// The typedef names in force in the body of a function.
+pub fn names_inside(
+    alloc: Global,
+    opening: &Opening,
+    first: &Counted,
+) -> Result<Vec<Name>, AllocError>
+    ensures { IfOk result (λ ns. ns.items ≡ part.declared_as (specified.storage_of (plain_specified opening.now.specified)) first.now.declarator.name (plain_declarator opening.now.specified.types.items first.now.declarator).inner) }
+{
+    let before = match &first.declarator.inner {
+        Some(inner) => inner.as_slice(),
+        None => opening.specified.types.as_slice(),
+    };
+    let types = Vec::from_slice(alloc, before)?;
+    declared_by(opening.specified.storage(), first.declarator.name, types)
+}

@@ -1,0 +1,316 @@
+//! The declarators of one declaration in a scope (C99 6.7), and the annotations that may stand on each.
+ghost use Rattle.std.specs.Prelude.{◌≡◌, ◌≤◌, ◌<◌, ◌+◌, false, nat_eq, IfOk, IfErr};
+ghost use Rattle.sb_expr.specs.declared.reading.ReadFault.TheVariants.{Memory};
+ghost use Rattle.sb_expr.specs.Meaning.{stop_number, Gives, GivesAs};
+ghost use Rattle.sb_expr.specs.Readers.{misplaced};
+ghost use Rattle.sb_tree.specs.Plain.{plain_notes, plain_type};
+ghost use Rattle.sb_declare.specs.Openings.{plain_counted, plain_listing};
+ghost use Rattle.sb_declare.specs.Openings as part;
+ghost use Rattle.sb_declare.specs.Specified as specified;
+
+use crate::building::declaration_of;
+use crate::declarators::{Declarator, declarator_within};
+use crate::openings::{front, initialised, is_pardon};
+use crate::specified::{Later, declare};
+use crate::tokens::{is_mark_next, take_mark};
+use sb_base::{Name, Names, Place, Token};
+use sb_expr::{Lexicon, Read, ReadFault, Reason};
+use sb_sal::{Bearer, notes_within};
+use sb_tree::{Decl, Mark, Note, Storage, TypeName};
+use std::alloc::{AllocError, Global};
+
+/// What the declarators of one declaration share: the typedef names in force before it, its tokens from the annotations
+/// on, those of the annotations, how it is stored, and the type of a later declarator.
+#[derive(Clone, Copy)]
+pub(crate) struct Shared<'n, 'a> {
+    pub(crate) outer: &'n [Name],
+    pub(crate) tokens: &'a [Token],
+    pub(crate) noted: &'a [Token],
+    pub(crate) storage: Storage,
+    pub(crate) later: Later,
+}
+
+/// A declarator of a declaration, and how many tokens stand behind the annotations.
+#[derive(Drop)]
+pub struct Counted {
+    pub declarator: Declarator,
+    pub count: usize,
+}
+
+/// The declarations so far, the typedef names in force behind them, and how many tokens stand behind the annotations.
+#[derive(Drop)]
+pub(crate) struct Listing {
+    pub(crate) list: Vec<Decl>,
+    pub(crate) types: Vec<Name>,
+    pub(crate) count: usize,
+}
+
+// ---- counts
+
+/// A sum of counts of tokens, which memory bounds.
+fn added(count: usize, more: usize) -> Result<usize, ReadFault>
+    ensures sum { IfOk result (λ n. n ≡ count + more) }
+    ensures memory { IfErr result (λ e. e ≡ Memory) }
+{
+    match count.checked_add(more) {
+        Some(sum) => Ok(sum),
+        None => Err(ReadFault::Memory),
+    }
+}
+
+// ---- annotations
+
+/// Whether annotations were refused since one of them may not stand there.
+fn is_misplaced(reason: Reason) -> bool
+    ensures { result ≡ nat_eq (stop_number reason) misplaced }
+{
+    matches!(reason, Reason::Misplaced)
+}
+
+/// How many tokens before their end the first of the annotations begins that may not stand on what is declared.
+fn misplacement(
+    alloc: Global,
+    names: &Names,
+    below: u32,
+    shared: &Shared,
+    bearer: Bearer,
+) -> Result<Option<usize>, ReadFault>
+    requires shallow { below < 200 }
+    ensures value { IfOk result (λ m. m ≡ part.misplacement names.now.texts below shared.now.outer.now shared.now.noted.now bearer) }
+    ensures memory { IfErr result (λ e. e ≡ Memory) }
+{
+    let lexicon = Lexicon {
+        names,
+        types: shared.outer,
+        in_note: false,
+    };
+    match notes_within(alloc, &lexicon, bearer, below, shared.noted) {
+        Ok(_notes) => Ok(None),
+        Err(ReadFault::Refused { reason, left }) if is_misplaced(reason) => Ok(Some(left)),
+        Err(ReadFault::Refused { .. }) => Ok(None),
+        Err(ReadFault::Memory) => Err(ReadFault::Memory),
+    }
+}
+
+/// The token that pardons annotations which begin so many tokens before it.
+fn take_pardon<'a>(count: usize, tokens: &'a [Token]) -> Result<Read<'a, Option<Token>>, ReadFault>
+    ensures { Gives (part.pardon count tokens.now) result }
+{
+    match tokens.split_first() {
+        Some((first, rest)) if is_pardon(*first) => Ok(Read {
+            value: Some(*first),
+            rest,
+        }),
+        _ => Err(ReadFault::at(Reason::MisplacedBefore(count), tokens)),
+    }
+}
+
+/// Nothing where each of the annotations may stand on what is declared, `count` tokens behind them, and else what
+/// pardons them.
+pub(crate) fn judged<'a>(
+    alloc: Global,
+    names: &Names,
+    below: u32,
+    shared: &Shared,
+    bearer: Bearer,
+    count: usize,
+    tokens: &'a [Token],
+) -> Result<Read<'a, Option<Token>>, ReadFault>
+    requires shallow { below < 200 }
+    ensures { Gives (part.pardoned (part.misplacement names.now.texts below shared.now.outer.now shared.now.noted.now bearer) count tokens.now) result }
+{
+    match misplacement(alloc, names, below, shared, bearer)? {
+        None => Ok(Read {
+            value: None,
+            rest: tokens,
+        }),
+        Some(left) => take_pardon(added(left, count)?, tokens),
+    }
+}
+
+/// The annotations again: their trees have no copies.
+pub(crate) fn notes_again(
+    alloc: Global,
+    names: &Names,
+    below: u32,
+    shared: &Shared,
+) -> Result<Vec<Note>, ReadFault>
+    requires shallow { below < 200 }
+    ensures list { IfOk result (λ ns. plain_notes ns.items ≡ part.notes_of names.now.texts below shared.now) }
+    ensures memory { IfErr result (λ e. e ≡ Memory) }
+{
+    let lexicon = Lexicon {
+        names,
+        types: shared.outer,
+        in_note: false,
+    };
+    match notes_within(alloc, &lexicon, Bearer::Any, below, shared.tokens) {
+        Ok(notes) => Ok(notes.list),
+        // They were read before, so that only memory may be wanting.
+        Err(_fault) => Err(ReadFault::Memory),
+    }
+}
+
+/// What a declarator declares, a function or something else.
+fn bearer_of(function: bool) -> Bearer
+    ensures { result ≡ specified.bearer_of function }
+{
+    if function {
+        Bearer::Function
+    } else {
+        Bearer::Object
+    }
+}
+
+// ---- declarators
+
+/// The typedef names in force behind a declarator of this name.
+pub(crate) fn declared_by(
+    storage: Storage,
+    name: Option<(Name, Place)>,
+    types: Vec<Name>,
+) -> Result<Vec<Name>, AllocError>
+    ensures { IfOk result (λ left. left.items ≡ part.declared_as storage name types.items) }
+{
+    let mut left = types;
+    if let Some((declared, _place)) = name {
+        declare(&mut left, storage, declared)?;
+    }
+    Ok(left)
+}
+
+/// Whether the names of a declaration are typedef names.
+fn is_typedef(storage: Storage) -> bool
+    ensures { result ≡ part.is_typedef storage }
+{
+    matches!(storage, Storage::Typedef)
+}
+
+/// A declarator on a type of this depth, behind which the annotations are judged.
+pub(crate) fn declarator_on<'a>(
+    alloc: Global,
+    lexicon: &Lexicon,
+    below: u32,
+    shared: &Shared,
+    depth: u32,
+    count: usize,
+    tokens: &'a [Token],
+) -> Result<Read<'a, Counted>, ReadFault>
+    requires shallow { below < 200 }
+    requires fits { depth ≤ below }
+    requires outside { lexicon.now.in_note ≡ false }
+    ensures read { GivesAs (plain_counted lexicon.now.types.now) (part.declarator_on lexicon.now.names.now.texts below shared.now.outer.now shared.now.noted.now shared.now.storage lexicon.now.types.now depth count tokens.now) result }
+{
+    let functions = !is_typedef(shared.storage);
+    let room = below - depth;
+    let found = declarator_within(alloc, lexicon, functions, false, below, room, tokens)?;
+    let bearer = bearer_of(found.value.declares_function());
+    let so_far = added(count, front(tokens, found.rest).len())?;
+    let judged = judged(
+        alloc,
+        lexicon.names,
+        below,
+        shared,
+        bearer,
+        so_far,
+        found.rest,
+    )?;
+    Ok(Read {
+        value: Counted {
+            declarator: found.value,
+            count: added(count, front(tokens, judged.rest).len())?,
+        },
+        rest: judged.rest,
+    })
+}
+
+/// What may follow a declarator: an initialiser.
+pub(crate) fn behind<'a>(
+    alloc: Global,
+    names: &Names,
+    below: u32,
+    shared: &Shared,
+    base: Box<TypeName>,
+    so_far: Listing,
+    found: Read<'a, Counted>,
+) -> Result<Read<'a, Listing>, ReadFault>
+    requires shallow { below < 200 }
+    ensures read { GivesAs plain_listing (part.behind names.now.texts below (part.notes_of names.now.texts below shared.now) shared.now.storage (plain_type base.value) (plain_listing so_far).list so_far.types.items (plain_counted so_far.types.items found.entry.value) found.entry.rest.now) result }
+{
+    let counted = found.value;
+    let declarator = counted.declarator;
+    let types = declared_by(shared.storage, declarator.name, so_far.types)?;
+    let lexicon = Lexicon {
+        names,
+        types: types.as_slice(),
+        in_note: false,
+    };
+    let initial = initialised(alloc, &lexicon, below, found.rest)?;
+    let count = added(counted.count, front(found.rest, initial.rest).len())?;
+    let notes = notes_again(alloc, names, below, shared)?;
+    let tree = declaration_of(
+        alloc,
+        notes,
+        shared.storage,
+        base,
+        declarator,
+        initial.tree,
+        None,
+    )?;
+    let mut list = so_far.list;
+    list.push(tree)?;
+    Ok(Read {
+        value: Listing { list, types, count },
+        rest: initial.rest,
+    })
+}
+
+/// A comma, and one more declarator.
+fn next_declarator<'a>(
+    alloc: Global,
+    names: &Names,
+    below: u32,
+    shared: &Shared,
+    so_far: Read<'a, Listing>,
+) -> Result<Read<'a, Listing>, ReadFault>
+    requires shallow { below < 200 }
+    requires fits { 1 + specified.one_if shared.now.later.constant ≤ below }
+    ensures read { GivesAs plain_listing (part.next_declarator names.now.texts below shared.now (plain_listing so_far.entry.value) so_far.entry.rest.now) result }
+{
+    let before = so_far.value;
+    let comma = take_mark(names, Mark::Comma, so_far.rest)?;
+    let count = added(before.count, 1)?;
+    let base = shared.later.based(alloc)?;
+    let lexicon = Lexicon {
+        names,
+        types: before.types.as_slice(),
+        in_note: false,
+    };
+    let found = declarator_on(
+        alloc, &lexicon, below, shared, base.depth, count, comma.rest,
+    )?;
+    behind(alloc, names, below, shared, base.tree, before, found)
+}
+
+/// As many commas as there are, each with one more declarator.
+pub(crate) fn next_declarators<'a>(
+    alloc: Global,
+    names: &Names,
+    below: u32,
+    shared: &Shared,
+    first: Read<'a, Listing>,
+) -> Result<Read<'a, Listing>, ReadFault>
+    requires shallow { below < 200 }
+    requires fits { 1 + specified.one_if shared.now.later.constant ≤ below }
+    ensures read { GivesAs plain_listing (part.next_declarators names.now.texts below shared.now (plain_listing first.entry.value) first.entry.rest.now) result }
+{
+    let most = first.rest.len();
+    let mut found = first;
+    for _turn in 0..most {
+        if !is_mark_next(names, Mark::Comma, found.rest) {
+            return Ok(found);
+        }
+        found = next_declarator(alloc, names, below, shared, found)?;
+    }
+    Ok(found)
+}
