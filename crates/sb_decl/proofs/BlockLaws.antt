@@ -1,0 +1,315 @@
+-- What begins statements and declarations, and the reader of blocks, if that of their items keeps the laws.
+use Rattle.std.proofs.Common.{◌≡◌, ◌≤◌, ◌⊎◌, ℕ, suc, max, Bool, true, false, ◌||◌, not, is_some, List, [], ◌∷◌, ◌++◌, refl, sym, ap, ◌∙◌, subst, subst₂, inl, inr, append_assoc, append-nil, arith}
+use Rattle.std.specs.Option.{option_map_or}
+use Rattle.std.proofs.Math.Nat.{le-max_left, le-max_right, max-le}
+use Rattle.sb_base.specs.declared.interning.Name.{Name}
+use Rattle.sb_base.specs.declared.tokens.PpKind.TheVariants as kind
+use Rattle.sb_base.specs.declared.tokens.Token.{Token}
+use Rattle.sb_parse.specs.Parser.{at_next, never, ◌>>=◌, pure, token, looped}
+use Rattle.sb_parse.specs.Lawful.{Lawful, OnHead, IsEmpty, IsToken, Joined, Opened, Mapped, Turns, over, turn}
+use Rattle.sb_parse.proofs.Joining.{via, map_of, nothing, in_order, one_token}
+use Rattle.sb_parse.proofs.Heads.{opened, head_via, head_of_append}
+use Rattle.sb_tree.specs.declared.sign.Keyword.TheVariants as keyword
+use Rattle.sb_tree.specs.declared.sign.Mark.TheVariants as mark
+use Rattle.sb_tree.specs.Plain.{stmt_list}
+use Rattle.sb_tree.specs.Signs as sign
+use Rattle.sb_tree.specs.Trees as tree
+use Rattle.sb_tree.specs.Trees.{ExprTree, StmtTree, depth_of_stmt, depth_of_stmts}
+use Rattle.sb_expr.specs.Expression.{Sequence}
+use Rattle.sb_expr.specs.Lexicon.{Lexicon}
+use Rattle.sb_expr.specs.Readers.{unexpected, is_open_brace, begins_expr}
+use Rattle.sb_expr.specs.Reads.{nowhere}
+use Rattle.sb_expr.proofs.Begins.{expr_begins}
+use Rattle.sb_expr.proofs.Lexemes.{same_mark, same_keyword, mark_is, mark_no_keyword}
+use Rattle.sb_expr.proofs.Ways.{goes_on_where, and_fails, or_first, or_second, turned_once_more}
+use Rattle.sb_sal.proofs.Partly.{opened_head}
+use Rattle.sb_declare.specs.declared.seat.Seat.TheVariants as seat
+use Rattle.sb_declare.specs.Specified.{reading}
+use Rattle.sb_declare.specs.Declaration.{IsDeclaration, is_nameless, is_declaration}
+use Rattle.sb_declare.specs.Readers.{Declarations, is_close_brace, is_name, begins_declaration}
+use Rattle.sb_declare.proofs.Heads.{declaration_begins}
+use Rattle.sb_declare.proofs.Lexing.{close_brace_token, close_brace_token_is}
+use Rattle.sb_declare.proofs.Turning.{turning_from}
+use Rattle.sb_decl.specs.Readers.{Body, Parts, block}
+use Rattle.sb_decl.specs.Statement.{takes_else, IsEvaluated, is_evaluated, IsDeclared, is_declared, IsStatement, IsBlock, is_braced, AreItems, no_items, a_statement, some_declaration}
+use Rattle.sb_decl.specs.Statement as grammar
+use Rattle.sb_decl.proofs.Chains.{Sign, AMark, AWord, is_sign, same_sign, declares_none, is_new, heads_of, new_off, sign_no_name, sign_declares_none}
+use Rattle.sb_decl.proofs.Laws.{plain, is_else, more_statement, more_last, more_body, FitsBlock, OneItem}
+
+-- ---- what begins statements
+
+abbrev pub signs : List Sign
+signs =
+    AMark mark.OpenBrace ∷ (AMark mark.Semicolon ∷ (AWord keyword.If ∷ (AWord keyword.While ∷ (AWord keyword.Do ∷ (AWord keyword.For ∷ (AWord keyword.Switch ∷ (AWord keyword.Goto ∷ (AWord keyword.Break
+    ∷ (AWord keyword.Continue ∷ (AWord keyword.Return ∷ (AWord keyword.Case ∷ (AWord keyword.Default ∷ []))))))))))))
+
+abbrev stands : Sign → List Sign → Bool
+stands s [] = false
+stands s (o ∷ ss) = same_sign s o || stands s ss
+
+-- a statement or a declaration
+abbrev pub begins_item : Lexicon → Token → Bool
+begins_item w t = heads_of w signs t || (is_name w t || begins_declaration w t)
+
+module _ (texts : List (List ℕ)) where
+  -- a sign with which neither begins
+  pub item_off : (types : List Name) (s : Sign) (t : Token) → is_new s signs ≡ true → declares_none s ≡ true → begins_item (reading texts types) t ≡ true → is_sign (reading texts types) s t ≡ false
+  item_off types s t new none h = by_test (is_sign (reading texts types) s t) refl
+    where
+      by_head : (b : Bool) → heads_of (reading texts types) signs t ≡ b → is_sign (reading texts types) s t ≡ true → true ≡ false
+      by_head true k is = sym is ∙ new_off texts types s signs t new k
+      by_head false k is =
+          sym h ∙ ap (λ b. b || (is_name (reading texts types) t || begins_declaration (reading texts types) t)) k ∙ ap (λ b. b || begins_declaration (reading texts types) t) (sign_no_name texts types s t is)
+          ∙ sign_declares_none texts types s t none is
+
+      by_test : (b : Bool) → is_sign (reading texts types) s t ≡ b → b ≡ false
+      by_test false k = refl
+      by_test true k = let both : true ≡ false = by_head (heads_of (reading texts types) signs t) refl k in absurd (cc both)
+
+  module _ (types : List Name) where
+    abbrev w : Lexicon
+    w = reading texts types
+
+    by_sign : (t : Token) → heads_of w signs t ≡ true → begins_item w t ≡ true
+    by_sign t h = or_first (heads_of w signs t) (is_name w t || begins_declaration w t) h
+
+    by_name : (t : Token) → is_name w t ≡ true → begins_item w t ≡ true
+    by_name t h = or_second (heads_of w signs t) (is_name w t || begins_declaration w t) (or_first (is_name w t) (begins_declaration w t) h)
+
+    by_declaration : (t : Token) → begins_declaration w t ≡ true → begins_item w t ≡ true
+    by_declaration t h = or_second (heads_of w signs t) (is_name w t || begins_declaration w t) (or_second (is_name w t) (begins_declaration w t) h)
+
+    same_is : (s o : Sign) (t : Token) → same_sign s o ≡ true → is_sign w s t ≡ true → is_sign w o t ≡ true
+    same_is (AMark m) (AMark n) t e h = subst (λ z. is_sign w (AMark z) t ≡ true) (same_mark m n e) h
+    same_is (AWord j) (AWord k) t e h = subst (λ z. is_sign w (AWord z) t ≡ true) (same_keyword j k e) h
+    same_is (AMark m) (AWord k) t e h = absurd (cc e)
+    same_is (AWord j) (AMark n) t e h = absurd (cc e)
+
+    at_sign : (s : Sign) (ss : List Sign) (t : Token) → stands s ss ≡ true → is_sign w s t ≡ true → heads_of w ss t ≡ true
+    at_sign s [] t e h = absurd (cc e)
+    at_sign s (o ∷ ss) t e h = by_test (same_sign s o) refl e (at_sign s ss t)
+      where
+        by_test : (b : Bool) → same_sign s o ≡ b → (b || stands s ss) ≡ true → (stands s ss ≡ true → is_sign w s t ≡ true → heads_of w ss t ≡ true) → (is_sign w o t || heads_of w ss t) ≡ true
+        by_test true k e later = or_first (is_sign w o t) (heads_of w ss t) (same_is s o t k h)
+        by_test false k e later = or_second (is_sign w o t) (heads_of w ss t) (later e h)
+
+    at_start : (s : Sign) (t : Token) → stands s signs ≡ true → is_sign w s t ≡ true → begins_item w t ≡ true
+    at_start s t e h = by_sign t (at_sign s signs t e h)
+
+    at_expr : (ss : List Sign) (t : Token) → begins_expr w t ≡ true → heads_of w ss t ≡ true
+    at_expr [] t h = h
+    at_expr (s ∷ ss) t h = or_second (is_sign w s t) (heads_of w ss t) (at_expr ss t h)
+
+    evaluated_begins : (ts : List Token) (s : StmtTree) → IsEvaluated w ts s → at_next (begins_expr w) ts ≡ true
+    evaluated_begins _ _ (is_evaluated c ts e ends free is) = head_of_append (begins_expr w) ts (c ∷ []) (expr_begins w Sequence ts e is)
+
+    pub declared_begins : (ts : List Token) (ds : Declarations) → IsDeclaration texts types ts ds → at_next (begins_declaration w) ts ≡ true
+    declared_begins _ _ (is_nameless _ xs ys js c notes s base b judged ends) = declaration_begins texts types _ seat.Scope xs ys (js ++ (c ∷ [])) notes s base b.are_notes b.are_specifiers b.names
+    declared_begins _ _ (is_declaration _ xs ys zs c notes s base ds b declared ends) = declaration_begins texts types _ seat.Scope xs ys (zs ++ (c ∷ [])) notes s base b.are_notes b.are_specifiers b.names
+
+    head_with : (test other : Token → Bool) → ((t : Token) → test t ≡ true → other t ≡ true) → (ts : List Token) → at_next test ts ≡ true → at_next other ts ≡ true
+    head_with test other to [] h = absurd (cc h)
+    head_with test other to (t ∷ ts) h = to t h
+
+  pub block_begins : (cases : Bool) (types : List Name) (ts : List Token) (s : StmtTree) → IsBlock texts cases types ts s → at_next (is_open_brace (reading texts types)) ts ≡ true
+  block_begins _ _ _ _ (is_braced cases types o c ts b opens closes are) = opens
+
+  pub statement_begins : (cases : Bool) (types : List Name) (ts : List Token) (s : StmtTree) → IsStatement texts cases types ts s → at_next (begins_item (reading texts types)) ts ≡ true
+  statement_begins _ types _ _ (grammar.is_block cases _ ts s is) =
+      head_with types (is_open_brace (reading texts types)) (begins_item (reading texts types)) (λ t h. at_start types (AMark mark.OpenBrace) t refl h) ts (block_begins false types ts s is)
+  statement_begins _ types _ _ (grammar.is_empty cases _ c h) = at_start types (AMark mark.Semicolon) c refl h
+  statement_begins _ types _ _ (grammar.is_expression cases _ ts s is) =
+      head_with types (begins_expr (reading texts types)) (begins_item (reading texts types)) (λ t h. by_sign types t (at_expr types signs t h)) ts (evaluated_begins types ts s is)
+  statement_begins _ types _ _ (grammar.is_if cases _ t xs ys e s h test is) = at_start types (AWord keyword.If) t refl h
+  statement_begins _ types _ _ (grammar.is_if_else cases _ t l xs ys zs e s o h k test is none also) = at_start types (AWord keyword.If) t refl h
+  statement_begins _ types _ _ (grammar.is_while cases _ t xs ys e s h test is) = at_start types (AWord keyword.While) t refl h
+  statement_begins _ types _ _ (grammar.is_do cases _ t u c xs ys s e h k l is test) = at_start types (AWord keyword.Do) t refl h
+  statement_begins _ types _ _ (grammar.is_for cases _ t o c d xs ys zs us f e g s h i j k first test step is) =
+      at_start types (AWord keyword.For) t refl h
+  statement_begins _ types _ _ (grammar.is_switch cases _ t xs ys e s h test is) =
+      at_start types (AWord keyword.Switch) t refl h
+  statement_begins _ types _ _ (grammar.is_goto cases _ t l c n h named ends) =
+      at_start types (AWord keyword.Goto) t refl h
+  statement_begins _ types _ _ (grammar.is_break cases _ t c h ends) =
+      at_start types (AWord keyword.Break) t refl h
+  statement_begins _ types _ _ (grammar.is_continue cases _ t c h ends) =
+      at_start types (AWord keyword.Continue) t refl h
+  statement_begins _ types _ _ (grammar.is_return cases _ t c ts e h ends is) =
+      at_start types (AWord keyword.Return) t refl h
+  statement_begins _ types _ _ (grammar.is_label cases _ t c n ts s named colon is) = by_name types t (ap is_some named)
+  statement_begins _ types _ _ (grammar.is_case _ t c xs ys e s h colon value is) =
+      at_start types (AWord keyword.Case) t refl h
+  statement_begins _ types _ _ (grammar.is_default _ t c ts s h colon is) =
+      at_start types (AWord keyword.Default) t refl h
+
+  pub item_begins : (left : ℕ) (cases : Bool) (b c : Body) (ts : List Token) → OneItem texts left cases b ts c → at_next (begins_item (reading texts b.types)) ts ≡ true
+  item_begins left cases b c ts o = go o.is
+    where
+      in_declared : (ts : List Token) (s : StmtTree) (now : List Name) → IsDeclared texts b.types ts s now → at_next (begins_item (reading texts b.types)) ts ≡ true
+      in_declared _ _ _ (is_declared _ ts ds is) = head_with b.types (begins_declaration (reading texts b.types)) (begins_item (reading texts b.types)) (λ t h. by_declaration b.types t h) ts (declared_begins b.types ts ds is)
+
+      go : (IsStatement texts cases b.types ts o.statement × (o.types ≡ b.types)) ⊎ IsDeclared texts b.types ts o.statement o.types → at_next (begins_item (reading texts b.types)) ts ≡ true
+      go (inl is) = statement_begins cases b.types ts o.statement is.0
+      go (inr is) = in_declared ts o.statement o.types is
+
+-- ---- a token that there is in any case
+
+open_brace_token : Token
+open_brace_token = record { kind = kind.Punct; text = record { 0 = 4294967337 }; place = nowhere; value = 0 }
+
+open_brace_token_is : (w : Lexicon) → is_open_brace w open_brace_token ≡ true
+unfolding open_brace_token
+open_brace_token_is w = refl
+
+-- ---- depths of lists
+
+list_deep : (ss : List StmtTree) (s : StmtTree) (left : ℕ) → depth_of_stmts (stmt_list ss) ≤ left → depth_of_stmt s ≤ left → depth_of_stmts (stmt_list (ss ++ (s ∷ []))) ≤ left
+list_deep [] s left h k = let none : 0 ≤ left = omega arith in max-le k none
+list_deep (r ∷ ss) s left h k =
+    let first : depth_of_stmt r ≤ max (depth_of_stmt r) (depth_of_stmts (stmt_list ss)) = le-max_left (depth_of_stmt r) (depth_of_stmts (stmt_list ss)) in
+    let later : depth_of_stmts (stmt_list ss) ≤ max (depth_of_stmt r) (depth_of_stmts (stmt_list ss)) = le-max_right (depth_of_stmt r) (depth_of_stmts (stmt_list ss)) in
+    let one : depth_of_stmt r ≤ left = omega arith in
+    max-le one (list_deep ss s left (omega arith) k)
+
+deep_list : (ss : List StmtTree) (s : StmtTree) (left : ℕ) → depth_of_stmts (stmt_list (ss ++ (s ∷ []))) ≤ left → (depth_of_stmts (stmt_list ss) ≤ left) × (depth_of_stmt s ≤ left)
+deep_list [] s left h = let first : depth_of_stmt s ≤ max (depth_of_stmt s) 0 = le-max_left (depth_of_stmt s) 0 in (omega arith, omega arith)
+deep_list (r ∷ ss) s left h =
+    let first : depth_of_stmt r ≤ max (depth_of_stmt r) (depth_of_stmts (stmt_list (ss ++ (s ∷ [])))) = le-max_left (depth_of_stmt r) (depth_of_stmts (stmt_list (ss ++ (s ∷ [])))) in
+    let later : depth_of_stmts (stmt_list (ss ++ (s ∷ []))) ≤ max (depth_of_stmt r) (depth_of_stmts (stmt_list (ss ++ (s ∷ [])))) = le-max_right (depth_of_stmt r) (depth_of_stmts (stmt_list (ss ++ (s ∷ [])))) in
+    let one : depth_of_stmt r ≤ left = omega arith in
+    let both = deep_list ss s left (omega arith) in
+    (max-le one both.0, both.1)
+
+pub some_stmt : (s : StmtTree) → 1 ≤ depth_of_stmt s
+some_stmt (tree.Goto n at place) = omega arith
+some_stmt (tree.Break place) = omega arith
+some_stmt (tree.Continue place) = omega arith
+some_stmt (tree.Block list place end) = omega arith
+some_stmt (tree.Evaluate e place) = omega arith
+some_stmt (tree.Declare ds place) = omega arith
+some_stmt (tree.If e s o place) = omega arith
+some_stmt (tree.While e s place) = omega arith
+some_stmt (tree.Do s e place) = omega arith
+some_stmt (tree.For f e g s place) = omega arith
+some_stmt (tree.Switch e s place) = omega arith
+some_stmt (tree.Case e s place) = omega arith
+some_stmt (tree.Default s place) = omega arith
+some_stmt (tree.Label n s place) = omega arith
+some_stmt (tree.Return e place) = omega arith
+
+-- what goes on from a list of statements goes on from its last
+pub last_more : (texts : List (List ℕ)) (ss : List StmtTree) (s : StmtTree) (t : Token) → more_last texts (ss ++ (s ∷ [])) t ≡ more_statement texts s t
+last_more texts [] s t = refl
+last_more texts (r ∷ []) s t = refl
+last_more texts (r ∷ (o ∷ ss)) s t = last_more texts (o ∷ ss) s t
+
+-- ---- blocks
+
+module _ (texts : List (List ℕ)) (below : ℕ) (part : Parts) (types : List Name) (cases : Bool) (P : (b : Body) → OnHead (λ t. not (is_close_brace (plain texts) t)) (OneItem texts below cases b) (more_body texts) (part.item cases b)) where
+  abbrev here : Lexicon
+  here = reading texts types
+
+  abbrev none : Body
+  none = record { list = []; types = types }
+
+  abbrev ItemsText : List Token → Body → Type 0
+  ItemsText = Joined (IsEmpty none) (Turns (OneItem texts below cases))
+
+  abbrev BlockText : List Token → StmtTree → Type 0
+  BlockText = Opened (is_open_brace here) (λ o. Joined ItemsText (λ b. Mapped (λ c. tree.Block (stmt_list b.list) o.place c.place) (IsToken (is_close_brace here))))
+
+  no_else : (b c : Body) (ts : List Token) → OneItem texts below cases b ts c → at_next (more_body texts b) ts ≡ false
+  no_else b c ts o = go ts (item_begins texts below cases b c ts o)
+    where
+      only_else : (ss : List StmtTree) (t : Token) → is_else texts t ≡ false → more_last texts ss t ≡ false
+      only_else [] t h = refl
+      only_else (s ∷ []) t h = and_fails (takes_else s) (is_else texts t) h
+      only_else (s ∷ (r ∷ ss)) t h = only_else (r ∷ ss) t h
+
+      go : (ts : List Token) → at_next (begins_item (reading texts b.types)) ts ≡ true → at_next (more_body texts b) ts ≡ false
+      go [] h = refl
+      go (t ∷ ts) h = only_else b.list t (item_off texts b.types (AWord keyword.Else) t refl refl h)
+
+  items_law : Lawful ItemsText (λ b t. not (is_close_brace here t) || more_body texts b t) (looped (λ t. not (is_close_brace here t)) (part.item cases) none)
+  items_law = turning_from {Turn = OneItem texts below cases} P (λ a b xs is. no_else a b xs is) (goes_on_where (nothing none) (more_body texts) (λ ts b is u. ap (λ z. more_body texts z u) is.same))
+
+  ends_at_brace : (b : Body) (t : Token) → is_close_brace here t ≡ true → (not (is_close_brace here t) || more_body texts b t) ≡ false
+  ends_at_brace b t h = ap (λ c. not c || more_body texts b t) h ∙ only_last b.list
+    where
+      only_last : (ss : List StmtTree) → more_last texts ss t ≡ false
+      only_last [] = refl
+      only_last (s ∷ []) = and_fails (takes_else s) (is_else texts t) (ap (λ o. option_map_or (sign.is_same_keyword keyword.Else) o false) (mark_no_keyword here mark.CloseBrace t (mark_is here mark.CloseBrace t h)))
+      only_last (s ∷ (r ∷ ss)) = only_last (r ∷ ss)
+
+  block_text_law : (other : StmtTree → Token → Bool) (o : Token) → ((b : Body) (c u : Token) → other (tree.Block (stmt_list b.list) o.place c.place) u ≡ false)
+      → Lawful (Joined ItemsText (λ b. Mapped (λ c. tree.Block (stmt_list b.list) o.place c.place) (IsToken (is_close_brace here)))) other
+      (looped (λ t. not (is_close_brace here t)) (part.item cases) none >>= (λ b. token unexpected (is_close_brace here) >>= (λ c. pure (tree.Block (stmt_list b.list) o.place c.place))))
+  block_text_law other o off =
+      in_order items_law (λ xs b is. map_of (one_token unexpected (is_close_brace here) close_brace_token (close_brace_token_is here)) (λ c. tree.Block (stmt_list b.list) o.place c.place) other (λ c u. off b c u))
+      (λ xs b ys s rest is m off. ap (λ z. at_next (λ t. not (is_close_brace here t) || more_body texts b t) (z ++ rest)) m.is.alone ∙ ends_at_brace b m.value m.is.passes)
+
+  -- ---- in the grammar's words
+
+  abbrev FitsItems : List Token → Body → Type 0
+  FitsItems ts b = AreItems texts cases types ts b × (depth_of_stmts (stmt_list b.list) ≤ below)
+
+  add_one : (xs ys : List Token) (b c : Body) → FitsItems xs b → OneItem texts below cases b ys c → FitsItems (xs ++ ys) c
+  add_one xs ys b c f o = subst (FitsItems (xs ++ ys)) (sym o.same) (go o.types o.is, list_deep b.list o.statement below f.1 o.fits)
+    where
+      go : (now : List Name) → (IsStatement texts cases b.types ys o.statement × (now ≡ b.types)) ⊎ IsDeclared texts b.types ys o.statement now → AreItems texts cases types (xs ++ ys) (record { list = b.list ++ (o.statement ∷ []); types = now })
+      go now (inl is) = subst (λ z. AreItems texts cases types (xs ++ ys) (record { list = b.list ++ (o.statement ∷ []); types = z })) (sym is.1) (a_statement cases types xs ys b o.statement f.0 is.0)
+      go now (inr is) = some_declaration cases types now xs ys b o.statement f.0 is
+
+  add_all : (xs ts : List Token) (b c : Body) → FitsItems xs b → Turns (OneItem texts below cases) b ts c → FitsItems (xs ++ ts) c
+  add_all xs _ _ _ f (over b) = subst (λ z. FitsItems z b) (sym (append-nil xs)) f
+  add_all xs _ _ _ f (turn b m c ys zs o later) = subst (λ z. FitsItems z c) (append_assoc xs ys zs) (add_all (xs ++ ys) zs m c (add_one xs ys b m f o) later)
+
+  to_items : (ts : List Token) (b : Body) → ItemsText ts b → FitsItems ts b
+  to_items ts b j =
+      let zero_deep : 0 ≤ below = omega arith in
+      subst (λ z. FitsItems z b) (sym (j.split ∙ ap (λ z. z ++ j.after) j.first.none))
+      (add_all [] j.after none b (no_items cases types, zero_deep) (subst (λ z. Turns (OneItem texts below cases) z j.after b) j.first.same j.second))
+
+  in_turns : (ts : List Token) (b : Body) → AreItems texts cases types ts b → depth_of_stmts (stmt_list b.list) ≤ below → Turns (OneItem texts below cases) none ts b
+  in_turns _ _ (no_items _ _) le = over none
+  in_turns _ _ (a_statement _ _ xs ys b s are is) le =
+      let both = deep_list b.list s below le in
+      turned_once_more none b (record { list = b.list ++ (s ∷ []); types = b.types }) xs ys (in_turns xs b are both.0) (record { statement = s; types = b.types; is = inl (is, refl); fits = both.1; same = refl })
+  in_turns _ _ (some_declaration _ _ now xs ys b s are is) le =
+      let both = deep_list b.list s below le in
+      turned_once_more none b (record { list = b.list ++ (s ∷ []); types = now }) xs ys (in_turns xs b are both.0) (record { statement = s; types = now; is = inr is; fits = both.1; same = refl })
+
+  to_block : (ts : List Token) (s : StmtTree) → BlockText ts s → FitsBlock texts (suc below) cases types ts s
+  to_block ts s o =
+      let j = o.is in
+      let m = j.second in
+      let f : FitsItems j.before j.value = to_items j.before j.value j.first in
+      let deep : depth_of_stmts (stmt_list j.value.list) ≤ below = f.1 in
+      subst₂ (FitsBlock texts (suc below) cases types) (sym (o.split ∙ ap (λ z. o.opening ∷ z) (j.split ∙ ap (λ z. j.before ++ z) m.is.alone))) (sym m.same)
+      (is_braced cases types o.opening m.value j.before j.value o.passes m.is.passes f.0, omega arith)
+
+  from_block : (ts : List Token) (s : StmtTree) → IsBlock texts cases types ts s → depth_of_stmt s ≤ suc below → BlockText ts s
+  from_block _ _ (is_braced _ _ o c ts b opens closes are) le =
+      let deep : depth_of_stmts (stmt_list b.list) ≤ below = omega arith in
+      record {
+        opening = o;
+        rest = ts ++ (c ∷ []);
+        split = refl;
+        passes = opens;
+        is = record {
+          before = ts;
+          after = c ∷ [];
+          value = b;
+          split = refl;
+          first = record { before = []; after = ts; value = none; split = refl; first = record { none = refl; same = refl }; second = in_turns ts b are deep };
+          second = record { value = c; is = record { alone = refl; passes = closes }; same = refl };
+        };
+      }
+
+  pub block_head : OnHead (is_open_brace here) (FitsBlock texts (suc below) cases types) (more_statement texts) (block texts below part types cases)
+  unfolding block
+  block_head = head_via (opened_head unexpected (is_open_brace here) (is_open_brace here) (λ o h. h) (λ o h. block_text_law (more_statement texts) o (λ b c u. refl))) to_block (λ ts s f. from_block ts s f.0 f.1) (block texts below part types cases) (λ ts. refl)
+
+  pub block_law : Lawful (FitsBlock texts (suc below) cases types) (λ s. never) (block texts below part types cases)
+  unfolding block
+  block_law = via (opened unexpected (is_open_brace here) open_brace_token (open_brace_token_is here) (λ o h. block_text_law (λ s. never) o (λ b c u. refl))) to_block (λ ts s f. from_block ts s f.0 f.1) (block texts below part types cases) (λ ts. refl)

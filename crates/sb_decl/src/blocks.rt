@@ -1,0 +1,256 @@
+//! Blocks, with the typedef names that their declarations bring into force (C99 6.8.2).
+ghost use Rattle.std.specs.Prelude.{◌≡◌, ◌<◌};
+ghost use Rattle.sb_expr.specs.Meaning.{meant, GivesAs, IsFault};
+ghost use Rattle.sb_declare.specs.Specified as specified;
+ghost use Rattle.sb_decl.specs.Meaning.{nested, plain_body};
+ghost use Rattle.sb_decl.specs.Parts as part;
+ghost use Rattle.sb_decl.specs.Readers as spec;
+ghost use Rattle.sb_tree.specs.Plain.{plain_stmt};
+
+use crate::iteration::declared;
+use crate::lexemes::{
+    is_declaration_next, is_item_next, is_label_next, is_named_declaration_next, is_type_going_on,
+    is_unlisted_next, lacks_room, reading, take_name,
+};
+use crate::statements::{item_within, statement};
+use crate::values::{Body, DeclaredStatement};
+use sb_base::{Name, Names, Token};
+use sb_declare::{Seat, barred};
+use sb_expr::{
+    Feature, Lexicon, Read, ReadFault, Reason, is_keyword_next, is_mark_next, take_mark,
+};
+use sb_sal::{is_bare, is_listed};
+use sb_tree::{Keyword, Mark, Stmt};
+use std::alloc::Global;
+
+/// As many declarations and statements as there are before a brace.
+#[cycle(statement)]
+fn more_items<'a>(
+    alloc: Global,
+    names: &Names,
+    types: &[Name],
+    cases: bool,
+    below: u32,
+    start: Read<'a, Body>,
+) -> Result<Read<'a, Body>, ReadFault>
+    requires shallow { below < 200 }
+    ensures { GivesAs plain_body (nested part.more_items names.now.texts below types.now cases (plain_body start.entry.value) start.entry.rest.now) result }
+{
+    let most = start.rest.len();
+    let mut found = start;
+    for _turn in 0..most {
+        if !is_item_next(names, types, found.rest) {
+            return Ok(found);
+        }
+        found = item_within(alloc, names, cases, below, found)?;
+    }
+    Ok(found)
+}
+
+/// The declarations and statements before a brace.
+#[cycle(statement)]
+fn items<'a>(
+    alloc: Global,
+    names: &Names,
+    types: &[Name],
+    cases: bool,
+    below: u32,
+    tokens: &'a [Token],
+) -> Result<Read<'a, Body>, ReadFault>
+    requires shallow { below < 200 }
+    ensures { GivesAs plain_body (nested part.items names.now.texts below types.now cases tokens.now) result }
+{
+    let start = Read {
+        value: Body {
+            list: Vec::new(alloc),
+            types: Vec::from_slice(alloc, types)?,
+        },
+        rest: tokens,
+    };
+    more_items(alloc, names, types, cases, below, start)
+}
+
+/// Declarations and statements in braces.
+#[cycle(statement)]
+#[tactic(auto, unfolding(crate::specs::Readers::block))]
+pub(crate) fn block<'a>(
+    alloc: Global,
+    names: &Names,
+    types: &[Name],
+    cases: bool,
+    below: u32,
+    tokens: &'a [Token],
+) -> Result<Read<'a, Stmt>, ReadFault>
+    requires shallow { below < 200 }
+    ensures { GivesAs plain_stmt (nested spec.block names.now.texts below types.now cases tokens.now) result }
+{
+    let lexicon = reading(names, types);
+    let open = take_mark(&lexicon, Mark::OpenBrace, tokens)?;
+    let body = items(alloc, names, types, cases, below, open.rest)?;
+    let close = take_mark(&lexicon, Mark::CloseBrace, body.rest)?;
+    Ok(Read {
+        value: Stmt::block(body.value.list, open.value.place, close.value.place),
+        rest: close.rest,
+    })
+}
+
+/// One declaration more.
+#[tactic(auto, unfolding(crate::specs::Readers::declaration_item), using(crate::proofs::Lists::more_stmts))]
+fn declaration_item<'a>(
+    alloc: Global,
+    names: &Names,
+    below: u32,
+    body: Read<'a, Body>,
+) -> Result<Read<'a, Body>, ReadFault>
+    requires shallow { below < 200 }
+    ensures { GivesAs plain_body (nested spec.declaration_item names.now.texts below (plain_body body.entry.value) body.entry.rest.now) result }
+{
+    let Read {
+        value,
+        rest: tokens,
+    } = body;
+    let Body { mut list, types } = value;
+    let found = declared(alloc, names, &types, below, tokens)?;
+    let DeclaredStatement { statement, types } = found.value;
+    list.push(statement)?;
+    Ok(Read {
+        value: Body { list, types },
+        rest: found.rest,
+    })
+}
+
+/// One statement more.
+#[cycle(statement)]
+#[tactic(auto, unfolding(crate::specs::Readers::statement_item), using(crate::proofs::Lists::more_stmts))]
+fn statement_item<'a>(
+    alloc: Global,
+    names: &Names,
+    cases: bool,
+    below: u32,
+    body: Read<'a, Body>,
+) -> Result<Read<'a, Body>, ReadFault>
+    requires shallow { below < 200 }
+    ensures { GivesAs plain_body (nested spec.statement_item names.now.texts below cases (plain_body body.entry.value) body.entry.rest.now) result }
+{
+    let Read {
+        value,
+        rest: tokens,
+    } = body;
+    let Body { mut list, types } = value;
+    let found = statement(alloc, names, &types, cases, below, tokens)?;
+    list.push(found.value)?;
+    Ok(Read {
+        value: Body { list, types },
+        rest: found.rest,
+    })
+}
+
+/// Why nothing goes on behind an annotation with arguments for which there is no room.
+fn without_arguments(lexicon: &Lexicon, tokens: &[Token]) -> ReadFault
+    ensures { IsFault (part.without_arguments {A = spec.Body} (meant lexicon.now) tokens.now) result }
+{
+    if is_mark_next(lexicon, Mark::OpenParenthesis, tokens) {
+        return ReadFault::too_deep(tokens);
+    }
+    if tokens.is_empty() {
+        return ReadFault::at_end();
+    }
+    ReadFault::at(Reason::Arguments, tokens)
+}
+
+/// Why nothing goes on behind an annotation without arguments for which there is no room.
+fn behind_bare(lexicon: &Lexicon, tokens: &[Token]) -> ReadFault
+    ensures { IsFault (part.behind_bare {A = spec.Body} (meant lexicon.now) tokens.now) result }
+{
+    if is_mark_next(lexicon, Mark::OpenParenthesis, tokens) {
+        return ReadFault::at(Reason::Arguments, tokens);
+    }
+    barred(lexicon, Seat::Scope, tokens)
+}
+
+/// Why nothing goes on behind the first token of a declaration for which there is no room.
+fn crowded(lexicon: &Lexicon, first: &Token, tokens: &[Token]) -> ReadFault
+    ensures { IsFault (spec.crowded {A = spec.Body} (meant lexicon.now) first.now tokens.now) result }
+{
+    if is_bare(lexicon, first) {
+        return behind_bare(lexicon, tokens);
+    }
+    if is_listed(lexicon, first) {
+        return without_arguments(lexicon, tokens);
+    }
+    if is_keyword_next(lexicon, Keyword::Volatile, tokens) {
+        return ReadFault::lacks(Feature::Volatile, tokens);
+    }
+    if is_type_going_on(lexicon, tokens) {
+        return ReadFault::too_deep(tokens);
+    }
+    ReadFault::unexpected(tokens)
+}
+
+/// A declaration that begins with a name.
+#[tactic(auto, unfolding(crate::specs::Readers::named_declaration, crate::specs::Readers::only_label))]
+fn named_declaration<'a>(
+    alloc: Global,
+    names: &Names,
+    below: u32,
+    body: Read<'a, Body>,
+) -> Result<Read<'a, Body>, ReadFault>
+    requires shallow { below < 200 }
+    ensures { GivesAs plain_body (nested spec.named_declaration names.now.texts below (plain_body body.entry.value) body.entry.rest.now) result }
+{
+    let lexicon = reading(names, &body.value.types);
+    if is_unlisted_next(&lexicon, body.rest) {
+        let name = take_name(&lexicon, body.rest)?;
+        return Err(ReadFault::at(Reason::UnknownAnnotationBefore, name.rest));
+    }
+    if lacks_room(&lexicon, below, body.rest) {
+        let name = take_name(&lexicon, body.rest)?;
+        return Err(crowded(&lexicon, &name.value, name.rest));
+    }
+    declaration_item(alloc, names, below, body)
+}
+
+/// A declaration that begins with a name, or a label.
+#[cycle(statement)]
+#[tactic(auto, unfolding(crate::specs::Readers::named_item))]
+fn named_item<'a>(
+    alloc: Global,
+    names: &Names,
+    cases: bool,
+    below: u32,
+    body: Read<'a, Body>,
+) -> Result<Read<'a, Body>, ReadFault>
+    requires shallow { below < 200 }
+    ensures { GivesAs plain_body (nested spec.named_item names.now.texts below cases (plain_body body.entry.value) body.entry.rest.now) result }
+{
+    if below == 0 {
+        return Err(ReadFault::too_deep(body.rest));
+    }
+    if is_label_next(&reading(names, &body.value.types), body.rest) {
+        return statement_item(alloc, names, cases, below, body);
+    }
+    named_declaration(alloc, names, below, body)
+}
+
+/// One declaration or statement more.
+#[cycle(statement)]
+#[tactic(auto, unfolding(crate::specs::Readers::item))]
+pub(crate) fn item<'a>(
+    alloc: Global,
+    names: &Names,
+    cases: bool,
+    below: u32,
+    body: Read<'a, Body>,
+) -> Result<Read<'a, Body>, ReadFault>
+    requires shallow { below < 200 }
+    ensures { GivesAs plain_body (nested spec.item names.now.texts below cases (plain_body body.entry.value) body.entry.rest.now) result }
+{
+    let lexicon = reading(names, &body.value.types);
+    if is_named_declaration_next(&lexicon, body.rest) {
+        return named_item(alloc, names, cases, below, body);
+    }
+    if is_declaration_next(&lexicon, body.rest) {
+        return declaration_item(alloc, names, below, body);
+    }
+    statement_item(alloc, names, cases, below, body)
+}

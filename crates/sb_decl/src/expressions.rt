@@ -1,0 +1,158 @@
+//! Expressions in statements (C99 6.8.3).
+ghost use Rattle.std.specs.Prelude.{◌≡◌, ◌<◌};
+ghost use Rattle.sb_expr.specs.Lexicon as lex;
+ghost use Rattle.sb_expr.specs.Meaning.{Gives, GivesAs, Reads};
+ghost use Rattle.sb_expr.specs.Expression.{Conditional};
+ghost use Rattle.sb_expr.specs.Readers.{expr_reader};
+ghost use Rattle.sb_declare.specs.Specified as specified;
+ghost use Rattle.sb_decl.specs.Meaning.{nested, plain_optional};
+ghost use Rattle.sb_decl.specs.Readers as spec;
+ghost use Rattle.sb_tree.specs.Plain.{plain_expr, plain_stmt};
+
+use crate::lexemes::{front_place, reading};
+use sb_base::{Name, Names, Token};
+use sb_expr::{Found, Level, Read, ReadFault, is_mark_next, take_mark, within};
+use sb_tree::{Expr, Mark, Stmt};
+use std::alloc::Global;
+
+/// An expression.
+#[tactic(auto, unfolding(crate::specs::Readers::expression))]
+pub(crate) fn expression<'a>(
+    alloc: Global,
+    names: &Names,
+    types: &[Name],
+    below: u32,
+    tokens: &'a [Token],
+) -> Result<Found<'a>, ReadFault>
+    requires shallow { below < 200 }
+    ensures { Reads (nested spec.expression names.now.texts below types.now tokens.now) result }
+{
+    within(
+        alloc,
+        &reading(names, types),
+        Level::Sequence,
+        below,
+        tokens,
+    )
+}
+
+/// The constant of a `case`.
+pub(crate) fn constant<'a>(
+    alloc: Global,
+    names: &Names,
+    types: &[Name],
+    below: u32,
+    tokens: &'a [Token],
+) -> Result<Found<'a>, ReadFault>
+    requires shallow { below < 200 }
+    ensures { Reads (expr_reader (specified.reading names.now.texts types.now) below Conditional tokens.now) result }
+{
+    within(
+        alloc,
+        &reading(names, types),
+        Level::Conditional,
+        below,
+        tokens,
+    )
+}
+
+/// A semicolon.
+#[tactic(auto, unfolding(crate::specs::Readers::semicolon))]
+pub(crate) fn semicolon<'a>(
+    names: &Names,
+    types: &[Name],
+    below: u32,
+    tokens: &'a [Token],
+) -> Result<Read<'a, Token>, ReadFault>
+    ensures { Gives (nested spec.semicolon names.now.texts below types.now tokens.now) result }
+{
+    take_mark(&reading(names, types), Mark::Semicolon, tokens)
+}
+
+/// An expression in parentheses.
+#[tactic(auto, unfolding(crate::specs::Readers::in_parentheses))]
+pub(crate) fn in_parentheses<'a>(
+    alloc: Global,
+    names: &Names,
+    types: &[Name],
+    below: u32,
+    tokens: &'a [Token],
+) -> Result<Read<'a, Expr>, ReadFault>
+    requires shallow { below < 200 }
+    ensures { GivesAs plain_expr (nested spec.in_parentheses names.now.texts below types.now tokens.now) result }
+{
+    let lexicon = reading(names, types);
+    let open = take_mark(&lexicon, Mark::OpenParenthesis, tokens)?;
+    let value = expression(alloc, names, types, below, open.rest)?;
+    let close = take_mark(&lexicon, Mark::CloseParenthesis, value.rest)?;
+    Ok(Read {
+        value: Box::into_inner(value.tree),
+        rest: close.rest,
+    })
+}
+
+/// An expression and its semicolon.
+#[tactic(auto, unfolding(crate::specs::Readers::evaluated, crate::specs::Readers::semicolon))]
+pub(crate) fn evaluated<'a>(
+    alloc: Global,
+    names: &Names,
+    types: &[Name],
+    below: u32,
+    tokens: &'a [Token],
+) -> Result<Read<'a, Stmt>, ReadFault>
+    requires shallow { below < 200 }
+    ensures { GivesAs plain_stmt (nested spec.evaluated names.now.texts below types.now tokens.now) result }
+{
+    let lexicon = reading(names, types);
+    let value = expression(alloc, names, types, below, tokens)?;
+    let place = front_place(tokens, value.rest);
+    let end = take_mark(&lexicon, Mark::Semicolon, value.rest)?;
+    Ok(Read {
+        value: Stmt::evaluate(Some(Box::into_inner(value.tree)), place),
+        rest: end.rest,
+    })
+}
+
+/// A semicolon alone.
+#[tactic(auto, unfolding(crate::specs::Readers::empty))]
+pub(crate) fn empty<'a>(
+    names: &Names,
+    types: &[Name],
+    below: u32,
+    tokens: &'a [Token],
+) -> Result<Read<'a, Stmt>, ReadFault>
+    ensures { GivesAs plain_stmt (nested spec.empty names.now.texts below types.now tokens.now) result }
+{
+    let end = take_mark(&reading(names, types), Mark::Semicolon, tokens)?;
+    Ok(Read {
+        value: Stmt::evaluate(None, end.value.place),
+        rest: end.rest,
+    })
+}
+
+/// An expression, unless what ends it is next.
+#[tactic(auto, unfolding(crate::specs::Readers::optional))]
+pub(crate) fn optional<'a>(
+    alloc: Global,
+    names: &Names,
+    types: &[Name],
+    below: u32,
+    end: Mark,
+    tokens: &'a [Token],
+) -> Result<Read<'a, Option<Expr>>, ReadFault>
+    requires shallow { below < 200 }
+    ensures { GivesAs plain_optional (nested spec.optional names.now.texts below types.now (lex.is_mark (specified.reading names.now.texts types.now) end) tokens.now) result }
+{
+    let lexicon = reading(names, types);
+    if is_mark_next(&lexicon, end, tokens) {
+        return Ok(Read {
+            value: None,
+            rest: tokens,
+        });
+    }
+    let value = expression(alloc, names, types, below, tokens)?;
+    Ok(Read {
+        value: Some(Box::into_inner(value.tree)),
+        rest: value.rest,
+    })
+}

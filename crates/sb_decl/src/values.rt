@@ -1,0 +1,25 @@
+//! What the readers of statements give.
+
+use sb_base::Name;
+use sb_tree::Stmt;
+
+/// The statements of a block so far, and the typedef names in force behind them.
+#[derive(Drop)]
+pub(crate) struct Body {
+    pub(crate) list: Vec<Stmt>,
+    pub(crate) types: Vec<Name>,
+}
+
+/// The first part of a `for`, if there is one, and the typedef names in force behind it (C99 6.8.5.3).
+#[derive(Drop)]
+pub(crate) struct First {
+    pub(crate) statement: Option<Stmt>,
+    pub(crate) types: Vec<Name>,
+}
+
+/// Declarations as a statement, and the typedef names in force behind them.
+#[derive(Drop)]
+pub(crate) struct DeclaredStatement {
+    pub(crate) statement: Stmt,
+    pub(crate) types: Vec<Name>,
+}
