@@ -12,8 +12,6 @@ mod postfix;
 mod prefix;
 mod reading;
 mod specifiers;
-#[cfg(test)]
-mod tests;
 mod trees;
 mod type_names;
 mod words;

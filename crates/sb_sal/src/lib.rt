@@ -8,8 +8,6 @@ mod lexemes;
 mod locations;
 mod nested;
 mod spelling;
-#[cfg(test)]
-mod tests;
 mod trees;
 
 pub use bearer::Bearer;

@@ -1,64 +1,42 @@
-use super::*;
-use sb_base::{Names, Place, PpKind, Stop, Token};
-use sb_tree::{Arg, Cursor, Expr, Note, Scope, UnaryOp};
+//! Tests of the reader of annotations.
+
+use super::parts::Part;
+use super::printing::{assert_tree, printed};
+use super::tokens::tokens;
+use sb_base::{Names, Stop};
+use sb_sal::notes;
+use sb_tree::{Cursor, Note, Scope};
 use std::alloc::Global;
 use std::test::Fail;
-
-fn kind_of(word: &str) -> PpKind {
-    match word.as_bytes().first() {
-        Some(byte) if byte.is_ascii_digit() => PpKind::Number,
-        Some(byte) if byte.is_ascii_alphabetic() || *byte == b'_' => PpKind::Word,
-        _ => PpKind::Punct,
-    }
-}
-
-/// The tokens of a text with a space between each two, in the columns 1, 2 and so on.
-fn tokens(alloc: Global, names: &mut Names, text: &str) -> Result<Vec<Token>, Fail> {
-    let mut list = Vec::new(alloc);
-    let mut col = 0_u32;
-    for word in text.split(' ') {
-        col = col.wrapping_add(1);
-        list.push(Token {
-            kind: kind_of(word),
-            text: names.intern(alloc, word.as_bytes())?,
-            place: Place {
-                file: 0,
-                line: 1,
-                col,
-            },
-            value: 0,
-        })?;
-    }
-    Ok(list)
-}
 
 /// What annotations a text begins with, and how many of its tokens they have.
 fn read(
     alloc: Global,
+    names: &mut Names,
     text: &str,
     types: &[&str],
     left: u32,
 ) -> Result<(Result<Vec<Note>, Stop>, usize), Fail> {
-    let mut names = Names::new(alloc, 200);
     let mut scope = Scope {
         types: Vec::new(alloc),
     };
     for name in types {
         scope.types.push(names.intern(alloc, name.as_bytes())?)?;
     }
-    let list = tokens(alloc, &mut names, text)?;
+    let list = tokens(alloc, names, text)?;
     let mut at = Cursor {
         tokens: &list,
         next: 0,
         left: left.min(200),
     };
-    let result = notes(alloc, &names, &scope, &mut at);
+    let result = notes(alloc, names, &scope, &mut at);
     Ok((result, at.next))
 }
 
 /// The number of a text's refusal and its column; where it is read whole 0 and how many annotations it has.
 fn told(alloc: Global, text: &str, left: u32) -> Result<(u16, usize), Fail> {
-    let (result, _next) = read(alloc, text, &[], left)?;
+    let mut names = Names::new(alloc, 200);
+    let (result, _next) = read(alloc, &mut names, text, &[], left)?;
     match result {
         Ok(list) => Ok((0, list.len())),
         Err(Stop::Refused(refused)) => Ok((refused.number, refused.place.col as usize)),
@@ -69,23 +47,16 @@ fn told(alloc: Global, text: &str, left: u32) -> Result<(u16, usize), Fail> {
 #[test]
 fn reads_annotations_one_after_the_other(rt: HostRuntime) -> Result<(), Fail> {
     let text = "_In_ _At_ ( * p , _Out_writes_to_ ( n + 1 , return ) ) int";
-    let (result, next) = read(rt.alloc(), text, &[], 200)?;
+    let mut names = Names::new(rt.alloc(), 200);
+    let (result, next) = read(rt.alloc(), &mut names, text, &[], 200)?;
     let Ok(list) = result else {
         assert!(rt; false);
         return Ok(());
     };
     assert_eq!(rt; next, 15);
-    assert_eq!(rt; list.len(), 2);
-    match list.get(1) {
-        Some(note) => match (note.args.first(), note.args.get(1)) {
-            (Some(Arg::Expr(Expr::Unary { op, .. })), Some(Arg::Note(inner))) => {
-                assert_eq!(rt; *op, UnaryOp::Deref);
-                assert_eq!(rt; inner.args.len(), 2);
-            }
-            _ => assert!(rt; false),
-        },
-        None => assert!(rt; false),
-    }
+    let found = printed(rt.alloc(), &names, Part::Notes(&list))?;
+    let tree = "(@_In_) (@_At_ (* p) (@_Out_writes_to_ (+ n 1) return))";
+    assert_tree(&rt, text, &found, tree)?;
     Ok(())
 }
 
@@ -140,7 +111,8 @@ fn refuses_where_it_shows(rt: HostRuntime) -> Result<(), Fail> {
 
 #[test]
 fn takes_a_typedef_name_for_a_type(rt: HostRuntime) -> Result<(), Fail> {
-    let (result, next) = read(rt.alloc(), "_In_ _Size_ n", &["_Size_"], 200)?;
+    let mut names = Names::new(rt.alloc(), 200);
+    let (result, next) = read(rt.alloc(), &mut names, "_In_ _Size_ n", &["_Size_"], 200)?;
     assert!(rt; result.is_ok());
     assert_eq!(rt; next, 1);
     Ok(())
