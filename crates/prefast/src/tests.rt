@@ -45,12 +45,12 @@ const CASES: [(&str, Status, &str); 14] = [
     (
         "void f(int n) {",
         Status::Refused,
-        "t.c:1:15: refused 33: outside the profile: not built yet\n",
+        "t.c:1:15: refused 31: unexpected token\n",
     ),
     (
         "void f(",
         Status::Refused,
-        "t.c:1:7: refused 33: outside the profile: not built yet\n",
+        "t.c:1:7: refused 31: unexpected token\n",
     ),
     (
         "void f(int n) { if (n < 2147483648) { } }",
@@ -75,7 +75,7 @@ const CASES: [(&str, Status, &str); 14] = [
 ];
 
 /// The text of `t.c`, and how it is refused.
-const REFUSED: [(&str, &str); 17] = [
+const REFUSED: [(&str, &str); 32] = [
     ("'a", "t.c:1:1: refused 2: literal not closed\n"),
     ("a @", "t.c:1:3: refused 3: bad byte\n"),
     ("08", "t.c:1:1: refused 4: bad number\n"),
@@ -117,6 +117,63 @@ const REFUSED: [(&str, &str); 17] = [
     ),
     ("#if 1 /\n#endif\n", "t.c:1:7: refused 26: bad condition\n"),
     ("#error no\n", "t.c:1:2: refused 27: error directive\n"),
+    (
+        "void f(int n) { n = ; }",
+        "t.c:1:21: refused 31: unexpected token\n",
+    ),
+    (
+        "int f(_In_(1) int *p);",
+        "t.c:1:11: refused 35: bad annotation\n",
+    ),
+    (
+        "int f(_Any_ int *p);",
+        "t.c:1:7: refused 36: unknown annotation\n",
+    ),
+    ("_In_ int n;", "t.c:1:1: refused 37: annotation place\n"),
+    (
+        "float x;",
+        "t.c:1:1: refused 33: outside the profile: floating type\n",
+    ),
+    (
+        "union U;",
+        "t.c:1:1: refused 33: outside the profile: union\n",
+    ),
+    (
+        "struct S { int a : 3; };",
+        "t.c:1:18: refused 33: outside the profile: bit field\n",
+    ),
+    (
+        "int (*g)(int);",
+        "t.c:1:9: refused 33: outside the profile: function pointer\n",
+    ),
+    (
+        "void f(int n, ...);",
+        "t.c:1:15: refused 33: outside the profile: variable arguments\n",
+    ),
+    (
+        "volatile int n;",
+        "t.c:1:1: refused 33: outside the profile: volatile\n",
+    ),
+    (
+        "_Complex n;",
+        "t.c:1:1: refused 33: outside the profile: complex\n",
+    ),
+    (
+        "void f() { }",
+        "t.c:1:8: refused 33: outside the profile: old definition\n",
+    ),
+    (
+        "int a[1] = { [0] = 1 };",
+        "t.c:1:14: refused 33: outside the profile: designated initialiser\n",
+    ),
+    (
+        "int *p = (int[1]) { 1 };",
+        "t.c:1:19: refused 33: outside the profile: compound literal\n",
+    ),
+    (
+        "int n;",
+        "t.c:1:1: refused 33: outside the profile: not built yet\n",
+    ),
 ];
 
 /// A text and a header that it includes, cut after each line, with what `check` writes of them.
@@ -130,7 +187,7 @@ const CUT: [(&str, &str, &str); 4] = [
     (
         "#include \"h.h\"\n#include \"h.h\"\n#if ONE\nHEAD\n#endif\n",
         "#pragma once\n#define ONE 1\n#define HEAD void f(int n)\n",
-        "t.c:4:1: refused 33: outside the profile: not built yet\n",
+        "t.c:4:1: refused 31: unexpected token\n",
     ),
     (
         "#include \"h.h\"\n#include \"h.h\"\n#if ONE\nHEAD\n#endif\n{ }\n",
@@ -142,7 +199,7 @@ const CUT: [(&str, &str, &str); 4] = [
 const OTHER: &str = "void f(_Out_writes_(n) int *a, int n) { a[0] = 1; }\n";
 
 /// Sets of files, with the status and what is written of each by `check` with the words.
-const SETS: [(&[(&str, &str)], &[&str], Status, &str); 6] = [
+const SETS: [(&[(&str, &str)], &[&str], Status, &str); 8] = [
     (
         &[("a.c", BOUNDED), ("b.c", BOUNDED)],
         &["a.c", "b.c"],
@@ -159,13 +216,25 @@ const SETS: [(&[(&str, &str)], &[&str], Status, &str); 6] = [
         &[("a.c", "void f("), ("b.c", "int f /*")],
         &["a.c", "b.c"],
         Status::Refused,
+        "a.c:1:7: refused 31: unexpected token\n",
+    ),
+    (
+        &[("a.c", "int n;"), ("b.c", "int f /*")],
+        &["a.c", "b.c"],
+        Status::Refused,
         "b.c:1:7: refused 1: comment not closed\n",
+    ),
+    (
+        &[("a.c", "int n;"), ("b.c", "void f(")],
+        &["a.c", "b.c"],
+        Status::Refused,
+        "b.c:1:7: refused 31: unexpected token\n",
     ),
     (
         &[("a.c", "#include \"x.h\"\n"), ("x.h", "void f(")],
         &["a.c"],
         Status::Refused,
-        "x.h:1:7: refused 33: outside the profile: not built yet\n",
+        "x.h:1:7: refused 31: unexpected token\n",
     ),
     (
         &[("a.c", BOUNDED)],
@@ -250,6 +319,8 @@ fn texts_one_past_a_limit(rt: HostRuntime) -> Result<(), Fail> {
     let tokens = tenfold(alloc)?;
     let pieces = "a ".repeat(alloc, 1_000_001)?;
     let bytes = " ".repeat(alloc, 4_194_305)?;
+    let nested = format!(in alloc; "int x = {}1", "(".repeat(alloc, 198)?)?;
+    let parameters = format!(in alloc; "int f({}int);", "int, ".repeat(alloc, 32)?)?;
     for (text, line) in [
         (
             pieces.as_str(),
@@ -257,6 +328,11 @@ fn texts_one_past_a_limit(rt: HostRuntime) -> Result<(), Fail> {
         ),
         (tokens.as_str(), "t.c:7:4: refused 16: too many tokens\n"),
         (bytes.as_str(), "t.c:0:0: refused 22: file too long\n"),
+        (nested.as_str(), "t.c:1:206: refused 32: too deep\n"),
+        (
+            parameters.as_str(),
+            "t.c:1:167: refused 38: too many parameters\n",
+        ),
     ] {
         let files = [("t.c", text)];
         let (answer, out) = checked(alloc, &files, &["t.c"], Vec::new(alloc), Vec::new(alloc))?;

@@ -2,7 +2,6 @@
 use Rattle.std.proofs.Common.{◌≡◌, ℕ, ◌⊎◌, inl, inr, Bool, true, false, List, [], nat_eq, Option, Some, None, if◌then◌else◌, refl, subst}
 use Rattle.std.proofs.lemmas.Bool.{eqb-true}
 use Rattle.sb_base.specs.declared.tokens.Token.{Token}
-use Rattle.sb_prep.specs.Ending.{Ending, Ended, Refused as RefusedAt}
 use Rattle.sb_term.specs.AnswerOf.{answer_of}
 use Rattle.sb_term.proofs.Lawful.{lawful}
 use Rattle.sb_top.specs.declared.status.Status.{Status}
@@ -10,7 +9,7 @@ use Rattle.sb_top.specs.declared.status.Status.TheVariants.{Clean, Warned}
 use Rattle.sb_top.specs.Walks.{report}
 use Rattle.sb_top.specs.Texts.{count_of}
 use Rattle.sb_top.specs.Words.{files_of_words}
-use Rattle.sb_top.specs.Sets.{most_names, AreUnits}
+use Rattle.sb_top.specs.Sets.{most_names, Ending, Whole, Stopped, AreUnits}
 use Rattle.sb_top.specs.Outcomes.{IsReported, IsUnread, IsEndOf, IsAnswer, IsDefined, AreSafeIn}
 use Rattle.sb_top.proofs.Soundness.Reported.{report_is_safe}
 
@@ -21,7 +20,7 @@ none_counted n true test e = eqb-true n 0 test
 none_counted n false test e = absurd (cc e)
 
 read_safe : (held : List ℕ → Option (List ℕ)) (words names texts files : List (List ℕ)) (units : List (List Token)) (text : List ℕ) → files_of_words words ≡ Some names
-    → AreUnits (Some held) most_names [] [] names units texts files Ended → IsReported texts files units Clean text ⊎ IsUnread texts files units Clean text → AreSafeIn held words
+    → AreUnits (Some held) most_names [] [] names units texts files Whole → IsReported texts files units Clean text ⊎ IsUnread texts files units Clean text → AreSafeIn held words
 read_safe held words names texts files units text asked are (inl r) = (
   r.functions,
   record { names = names; texts = texts; files = files; units = units; asked = asked; are_units = are; are_read = r.are_read },
@@ -31,8 +30,8 @@ read_safe held words names texts files units text asked are (inr u) = absurd (cc
 
 end_safe : (held : List ℕ → Option (List ℕ)) (words names texts files : List (List ℕ)) (units : List (List Token)) (end : Ending) (text : List ℕ) → files_of_words words ≡ Some names
     → AreUnits (Some held) most_names [] [] names units texts files end → IsEndOf texts files units end Clean text → AreSafeIn held words
-end_safe held words names texts files units Ended text asked are h = read_safe held words names texts files units text asked are h
-end_safe held words names texts files units (RefusedAt number place) text asked are h = absurd (cc h.0)
+end_safe held words names texts files units Whole text asked are h = read_safe held words names texts files units text asked are h
+end_safe held words names texts files units (Stopped r) text asked are h = absurd (cc h.0)
 
 answer_safe : (held : List ℕ → Option (List ℕ)) (words : List (List ℕ)) (text : List ℕ) (asked : Option (List (List ℕ))) → files_of_words words ≡ asked
     → IsAnswer (Some held) asked Clean text → AreSafeIn held words

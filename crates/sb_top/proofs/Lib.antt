@@ -30,4 +30,5 @@ pub mod Targets
 pub mod Absorbing
 pub mod Placing
 pub mod Soundness
+pub mod Misread
 pub mod OneOutcome

@@ -2,9 +2,10 @@
 use Rattle.std.proofs.Common.{◌≡◌, ◌-◌, inl, inr, ℕ, List, [], ◌∷◌, ◌++◌, Option, Some, None, length, max, slice_get, refl, sym, ap, ◌∙◌, subst}
 use Rattle.sb_base.specs.Names.{IsDistinct}
 use Rattle.sb_base.specs.declared.refusals.Place.{Place}
+use Rattle.sb_base.specs.declared.refusals.Refusal.{Refusal}
 use Rattle.sb_base.specs.declared.tokens.Token.{Token}
 use Rattle.sb_parse.proofs.Places.{one_place, none_is_refused}
-use Rattle.sb_prep.specs.Ending.{Ending, Ended, Refused as RefusedAt}
+use Rattle.sb_prep.specs.Ending.{Ended, Refused as RefusedAt}
 use Rattle.sb_prep.specs.Unit.{IsUnit}
 use Rattle.sb_prep.proofs.OneUnit.{one_unit, unit_keeps}
 use Rattle.sb_term.specs.AnswerOf.{answer_of}
@@ -16,12 +17,14 @@ use Rattle.sb_top.specs.Walks.{report}
 use Rattle.sb_top.specs.Texts.{refusal, report_text}
 use Rattle.sb_top.specs.Words.{files_of_words}
 use Rattle.sb_top.specs.Lexemes.{pieces_of}
-use Rattle.sb_top.specs.Sets.{most_names, AreUnits, AreRead, IsRefusedAt, IsUnreadAt}
+use Rattle.sb_top.specs.Sets.{most_names, Ending, Whole, Stopped, no_feature, HasTree, IsMisread, IsRefusedUnit, AreUnits, AreRead, IsRefusedAt, IsUnreadAt}
+use Rattle.sb_top.specs.Sets.IsRefusedUnit.{by_preprocessor, by_grammar}
 use Rattle.sb_top.specs.Sets.AreUnits.{none, next, refused}
 use Rattle.sb_top.specs.Sets.AreRead.{ended, read}
 use Rattle.sb_top.specs.Sets.IsUnreadAt.{here, behind}
 use Rattle.sb_top.specs.Outcomes.{IsReported, IsUnread, IsOutcome, IsEndOf, IsAnswer, HasOneOutcome, status_of, not_built_yet}
 use Rattle.sb_top.proofs.FileLaws.{one_tree}
+use Rattle.sb_top.proofs.Misread.{never_misread, one_misread}
 
 abbrev Same : Status → Status → List ℕ → List ℕ → Type 0
 Same status other text more = (status ≡ other) × (text ≡ more)
@@ -80,43 +83,80 @@ record SameUnits (us vs : List (List Token)) (later more last other : List (List
   files : other ≡ last
   ends : ending ≡ end
 
-moved : (held : Option (List ℕ → Option (List ℕ))) (limit : ℕ) (name name' : List ℕ) (texts texts' files files' later last : List (List ℕ)) (ts : List Token) (end : Ending) → name' ≡ name → texts' ≡ texts → files' ≡ files
-    → IsUnit held limit name' texts' files' ts later last end → IsUnit held limit name texts files ts later last end
-moved held limit name name' texts texts' files files' later last ts end n t f is =
-    subst (λ z. IsUnit held limit z texts files ts later last end) n (subst (λ z. IsUnit held limit name' z files ts later last end) t (subst (λ z. IsUnit held limit name' texts' z ts later last end) f is))
+moved : (held : Option (List ℕ → Option (List ℕ))) (limit : ℕ) (name name' : List ℕ) (texts texts' files files' later last : List (List ℕ)) (ts : List Token) → name' ≡ name → texts' ≡ texts → files' ≡ files
+    → IsUnit held limit name' texts' files' ts later last Ended → IsUnit held limit name texts files ts later last Ended
+moved held limit name name' texts texts' files files' later last ts n t f is =
+    subst (λ z. IsUnit held limit z texts files ts later last Ended) n (subst (λ z. IsUnit held limit name' z files ts later last Ended) t (subst (λ z. IsUnit held limit name' texts' z ts later last Ended) f is))
+
+same_ending : (number number' : ℕ) (place place' : Place) → RefusedAt number' place' ≡ RefusedAt number place → no_feature number' place' ≡ no_feature number place
+same_ending number number' place place' e = let numbers : number' ≡ number = cc e in let places : place' ≡ place = cc e in ap (λ z. no_feature z place') numbers ∙ ap (no_feature number) places
+
+-- two refusals of one unit are one, with the same tables behind it
+record SameRefusals (later more last other : List (List ℕ)) (r s : Refusal) : Type 0 where
+  laters : more ≡ later
+  lasts : other ≡ last
+  refusals : s ≡ r
+
+module _ (held : List ℕ → Option (List ℕ)) (limit : ℕ) (name : List ℕ) (texts files : List (List ℕ)) (dt : IsDistinct texts) (df : IsDistinct files) where
+  -- a unit with a tree is not refused
+  never_refused : (tokens : List Token) (middle between later last : List (List ℕ)) (r : Refusal) → IsUnit (Some held) limit name texts files tokens middle between Ended → HasTree middle tokens
+      → IsRefusedUnit (Some held) limit name texts files later last r → ⊥
+  never_refused tokens middle between later last _ is has (by_preprocessor others number place at) =
+      let unit = one_unit held limit name texts files dt df is at in absurd (cc unit.ends)
+  never_refused tokens middle between later last _ is has (by_grammar others r at misread) =
+      let unit = one_unit held limit name texts files dt df is at in
+      never_misread middle tokens r has (subst (λ z. IsMisread z tokens r) unit.laters (subst (λ z. IsMisread later z r) unit.tokens misread))
+
+  one_refusal : (later more last other : List (List ℕ)) (r s : Refusal) → IsRefusedUnit (Some held) limit name texts files later last r → IsRefusedUnit (Some held) limit name texts files more other s
+      → SameRefusals later more last other r s
+  one_refusal later more last other _ _ (by_preprocessor tokens number place is) (by_preprocessor tokens' number' place' is') =
+      let unit = one_unit held limit name texts files dt df is is' in
+      record { laters = unit.laters; lasts = unit.lasts; refusals = same_ending number number' place place' unit.ends }
+  one_refusal later more last other _ _ (by_preprocessor tokens number place is) (by_grammar tokens' r is' misread) =
+      let unit = one_unit held limit name texts files dt df is is' in absurd (cc unit.ends)
+  one_refusal later more last other _ _ (by_grammar tokens r is misread) (by_preprocessor tokens' number place is') =
+      let unit = one_unit held limit name texts files dt df is is' in absurd (cc unit.ends)
+  one_refusal later more last other _ _ (by_grammar tokens r is misread) (by_grammar tokens' s is' misread') =
+      let unit = one_unit held limit name texts files dt df is is' in
+      record {
+        laters = unit.laters;
+        lasts = unit.lasts;
+        refusals = one_misread later tokens s r (subst (λ z. IsMisread z tokens s) unit.laters (subst (λ z. IsMisread more z s) unit.tokens misread')) misread;
+      }
+
+moved_refusal : (held : Option (List ℕ → Option (List ℕ))) (limit : ℕ) (name name' : List ℕ) (texts texts' files files' later last : List (List ℕ)) (r : Refusal) → name' ≡ name → texts' ≡ texts → files' ≡ files
+    → IsRefusedUnit held limit name' texts' files' later last r → IsRefusedUnit held limit name texts files later last r
+moved_refusal held limit name name' texts texts' files files' later last r n t f is =
+    subst (λ z. IsRefusedUnit held limit z texts files later last r) n (subst (λ z. IsRefusedUnit held limit name' z files later last r) t (subst (λ z. IsRefusedUnit held limit name' texts' z later last r) f is))
 
 -- two readings of one list of files that begin with the same tables
 same_units : (held : List ℕ → Option (List ℕ)) (limit : ℕ) (texts files names later last : List (List ℕ)) (us : List (List Token)) (end : Ending) (texts' files' names' more other : List (List ℕ)) (vs : List (List Token)) (ending : Ending)
     → AreUnits (Some held) limit texts files names us later last end → AreUnits (Some held) limit texts' files' names' vs more other ending
     → texts' ≡ texts → files' ≡ files → names' ≡ names → IsDistinct texts → IsDistinct files → SameUnits us vs later more last other end ending
 same_units held limit _ _ _ _ _ _ _ _ _ _ _ _ _ _ (none texts files) (none texts' files') t f n dt df = record { given = refl; texts = t; files = f; ends = refl }
-same_units held limit _ _ _ _ _ _ _ _ _ _ _ _ _ _ (none texts files) (next texts' files' middle' between' later' last' names' name' tokens' units' end' is' are') t f n dt df = absurd (cc n)
-same_units held limit _ _ _ _ _ _ _ _ _ _ _ _ _ _ (none texts files) (refused texts' files' later' last' names' name' tokens' number' place' is') t f n dt df = absurd (cc n)
-same_units held limit _ _ _ _ _ _ _ _ _ _ _ _ _ _ (next texts files middle between later last names name tokens us end is are) (none texts' files') t f n dt df = absurd (cc n)
-same_units held limit _ _ _ _ _ _ _ _ _ _ _ _ _ _ (next texts files middle between later last names name tokens us end is are) (next texts' files' middle' between' later' last' names' name' tokens' vs end' is' are') t f n dt df =
+same_units held limit _ _ _ _ _ _ _ _ _ _ _ _ _ _ (none texts files) (next texts' files' middle' between' later' last' names' name' tokens' units' end' is' has' are') t f n dt df = absurd (cc n)
+same_units held limit _ _ _ _ _ _ _ _ _ _ _ _ _ _ (none texts files) (refused texts' files' later' last' names' name' r' is') t f n dt df = absurd (cc n)
+same_units held limit _ _ _ _ _ _ _ _ _ _ _ _ _ _ (next texts files middle between later last names name tokens us end is has are) (none texts' files') t f n dt df = absurd (cc n)
+same_units held limit _ _ _ _ _ _ _ _ _ _ _ _ _ _ (next texts files middle between later last names name tokens us end is has are) (next texts' files' middle' between' later' last' names' name' tokens' vs end' is' has' are') t f n dt df =
     let head : name' ≡ name = cc n in
     let tail : names' ≡ names = cc n in
-    let again = moved (Some held) limit name name' texts texts' files files' middle' between' tokens' Ended head t f is' in
+    let again = moved (Some held) limit name name' texts texts' files files' middle' between' tokens' head t f is' in
     let unit = one_unit held limit name texts files dt df is again in
     let apart : IsDistinct middle × IsDistinct between = unit_keeps held limit name texts files dt df is in
     let rest : SameUnits us vs later later' last last' end end' = same_units held limit middle between names later last us end middle' between' names' later' last' vs end' are are' unit.laters unit.lasts tail apart.0 apart.1 in
     record { given = ap (λ z. z ∷ vs) unit.tokens ∙ ap (λ z. tokens ∷ z) rest.given; texts = rest.texts; files = rest.files; ends = rest.ends }
-same_units held limit _ _ _ _ _ _ _ _ _ _ _ _ _ _ (next texts files middle between later last names name tokens us end is are) (refused texts' files' later' last' names' name' tokens' number' place' is') t f n dt df =
+same_units held limit _ _ _ _ _ _ _ _ _ _ _ _ _ _ (next texts files middle between later last names name tokens us end is has are) (refused texts' files' later' last' names' name' r' is') t f n dt df =
     let head : name' ≡ name = cc n in
-    let again = moved (Some held) limit name name' texts texts' files files' later' last' tokens' (RefusedAt number' place') head t f is' in
-    let unit = one_unit held limit name texts files dt df is again in
-    absurd (cc unit.ends)
-same_units held limit _ _ _ _ _ _ _ _ _ _ _ _ _ _ (refused texts files later last names name tokens number place is) (none texts' files') t f n dt df = absurd (cc n)
-same_units held limit _ _ _ _ _ _ _ _ _ _ _ _ _ _ (refused texts files later last names name tokens number place is) (next texts' files' middle' between' later' last' names' name' tokens' vs end' is' are') t f n dt df =
+    absurd (never_refused held limit name texts files dt df tokens middle between later' last' r' is has (moved_refusal (Some held) limit name name' texts texts' files files' later' last' r' head t f is'))
+same_units held limit _ _ _ _ _ _ _ _ _ _ _ _ _ _ (refused texts files later last names name r is) (none texts' files') t f n dt df = absurd (cc n)
+same_units held limit _ _ _ _ _ _ _ _ _ _ _ _ _ _ (refused texts files later last names name r is) (next texts' files' middle' between' later' last' names' name' tokens' vs end' is' has' are') t f n dt df =
     let head : name' ≡ name = cc n in
-    let again = moved (Some held) limit name name' texts texts' files files' middle' between' tokens' Ended head t f is' in
-    let unit = one_unit held limit name texts files dt df is again in
-    absurd (cc unit.ends)
-same_units held limit _ _ _ _ _ _ _ _ _ _ _ _ _ _ (refused texts files later last names name tokens number place is) (refused texts' files' later' last' names' name' tokens' number' place' is') t f n dt df =
+    let again = moved (Some held) limit name name' texts texts' files files' middle' between' tokens' head t f is' in
+    absurd (never_refused held limit name texts files dt df tokens' middle' between' later last r again has' is)
+same_units held limit _ _ _ _ _ _ _ _ _ _ _ _ _ _ (refused texts files later last names name r is) (refused texts' files' later' last' names' name' r' is') t f n dt df =
     let head : name' ≡ name = cc n in
-    let again = moved (Some held) limit name name' texts texts' files files' later' last' tokens' (RefusedAt number' place') head t f is' in
-    let unit = one_unit held limit name texts files dt df is again in
-    record { given = refl; texts = unit.laters; files = unit.lasts; ends = unit.ends }
+    let same : SameRefusals later later' last last' r r' = one_refusal held limit name texts files dt df later later' last last' r r' is (moved_refusal (Some held) limit name name' texts texts' files files' later' last' r' head t f is') in
+    record { given = refl; texts = same.laters; files = same.lasts; ends = ap Stopped same.refusals }
 
 -- ---- one outcome
 
@@ -131,15 +171,15 @@ unread_once : (texts files : List (List ℕ)) (us : List (List Token)) (status o
 unread_once texts files us status other text more one two =
     let place : one.place ≡ two.place = one_unread texts us us one.place two.place one.is_unread two.is_unread refl in (
       one.status_is ∙ sym two.status_is,
-      one.text_is ∙ ap (λ z. refusal files z not_built_yet) place ∙ sym two.text_is,
+      one.text_is ∙ ap (λ z. refusal files (not_built_yet z)) place ∙ sym two.text_is,
     )
 
 end_once : (texts files : List (List ℕ)) (us : List (List Token)) (end : Ending) (status other : Status) (text more : List ℕ) → IsEndOf texts files us end status text → IsEndOf texts files us end other more → Same status other text more
-end_once texts files us (RefusedAt number place) status other text more one two = (one.0 ∙ sym two.0, one.1 ∙ sym two.1)
-end_once texts files us Ended status other text more (inl one) (inl two) = reported_once texts files us status other text more one two
-end_once texts files us Ended status other text more (inl one) (inr two) = absurd (never_both texts us us one.functions two.place one.are_read two.is_unread refl)
-end_once texts files us Ended status other text more (inr one) (inl two) = absurd (never_both texts us us two.functions one.place two.are_read one.is_unread refl)
-end_once texts files us Ended status other text more (inr one) (inr two) = unread_once texts files us status other text more one two
+end_once texts files us (Stopped r) status other text more one two = (one.0 ∙ sym two.0, one.1 ∙ sym two.1)
+end_once texts files us Whole status other text more (inl one) (inl two) = reported_once texts files us status other text more one two
+end_once texts files us Whole status other text more (inl one) (inr two) = absurd (never_both texts us us one.functions two.place one.are_read two.is_unread refl)
+end_once texts files us Whole status other text more (inr one) (inl two) = absurd (never_both texts us us two.functions one.place two.are_read one.is_unread refl)
+end_once texts files us Whole status other text more (inr one) (inr two) = unread_once texts files us status other text more one two
 
 outcome_once : (held : List ℕ → Option (List ℕ)) (names : List (List ℕ)) (status other : Status) (text more : List ℕ) → IsOutcome (Some held) names status text → IsOutcome (Some held) names other more → Same status other text more
 outcome_once held names status other text more one two =

@@ -1,5 +1,5 @@
 -- the units of some files, one after another
-use Rattle.std.proofs.Common.{◌≡◌, ◌<◌, ◌≤◌, ◌+◌, ℕ, List, [], ◌∷◌, ◌++◌, length, Option, Result, Err, Vec, map, get_or, drop, refl, sym, ap, ◌∙◌, subst, arith, add-one, append_assoc, append-nil, length-append}
+use Rattle.std.proofs.Common.{◌≡◌, ◌<◌, ◌≤◌, ◌+◌, ℕ, List, [], ◌∷◌, ◌++◌, length, Option, Err, map, get_or, drop, refl, sym, ap, ◌∙◌, subst, arith, add-one, append_assoc, append-nil, length-append}
 use Rattle.std.proofs.Math.Seq.{drop-cons}
 use Rattle.std.proofs.Math.ListN.{drop_of_length-le}
 use Rattle.sb_base.specs.Outside.{Rose}
@@ -8,7 +8,7 @@ use Rattle.sb_base.specs.declared.refusals.Refusal.{Refusal}
 use Rattle.sb_base.specs.declared.tokens.Token.{Token}
 use Rattle.sb_parse.specs.Read.{IsRefused}
 use Rattle.sb_parse.proofs.Places.{none_is_refused}
-use Rattle.sb_prep.specs.Ending.{Ending, Ended, Refused}
+use Rattle.sb_prep.specs.Ending.{Ended}
 use Rattle.sb_prep.specs.Unit.{IsUnit}
 use Rattle.sb_prep.specs.Reading.{IsUnitRefused}
 use Rattle.sb_prep.specs.Stopping.{IsFault, HasCause}
@@ -21,7 +21,8 @@ use Rattle.sb_top.specs.Syntax.{FunctionTree}
 use Rattle.sb_top.specs.Grammar.{IsFile}
 use Rattle.sb_top.specs.Grammar.AreFunctions.{ended as nothing}
 use Rattle.sb_top.specs.Lexemes.{pieces_of}
-use Rattle.sb_top.specs.Sets.{AreUnits, AreRead, IsRefusedAt, IsUnreadAt, EndAs, HasUnitCause, UnitReadAs, ReadAs}
+use Rattle.sb_top.specs.Sets.{Ending, Whole, Stopped, HasTree, IsRefusedUnit, UnitEndsAs, AreUnits, AreRead, IsRefusedAt, IsUnreadAt, EndAs, HasUnitCause, UnitReadAs, ReadAs}
+use Rattle.sb_top.specs.Sets.IsRefusedUnit.{by_preprocessor}
 use Rattle.sb_top.specs.Sets.AreUnits.{none, next, refused}
 use Rattle.sb_top.specs.Sets.AreRead.{ended, read}
 use Rattle.sb_top.specs.Sets.IsUnreadAt.{here, behind}
@@ -31,27 +32,27 @@ pub record Goes (held : Option (List ℕ → Option (List ℕ))) (limit : ℕ) (
   pub on : (more : List (List Token)) (later last : List (List ℕ)) (end : Ending) → AreUnits held limit now there rest more later last end → AreUnits held limit texts files names (found ++ more) later last end
 
 pub goes_next : (held : Option (List ℕ → Option (List ℕ))) (limit : ℕ) (texts files names : List (List ℕ)) (found : List (List Token)) (now there rest middle between left : List (List ℕ)) (name : List ℕ) (tokens : List Token)
-    → Goes held limit texts files names found now there rest → rest ≡ name ∷ left → IsUnit held limit name now there tokens middle between Ended
+    → Goes held limit texts files names found now there rest → rest ≡ name ∷ left → IsUnit held limit name now there tokens middle between Ended → HasTree middle tokens
     → Goes held limit texts files names (found ++ (tokens ∷ [])) middle between left
-goes_next held limit texts files names found now there rest middle between left name tokens goes split is = record {
+goes_next held limit texts files names found now there rest middle between left name tokens goes split is has = record {
   on = λ more later last end are.
       subst (λ z. AreUnits held limit texts files names z later last end) (sym (append_assoc found (tokens ∷ []) more))
       (goes.on (tokens ∷ more) later last end (subst (λ z. AreUnits held limit now there z (tokens ∷ more) later last end) (sym split)
-      (next now there middle between later last left name tokens more end is are)));
+      (next now there middle between later last left name tokens more end is has are)));
 }
 
-pub goes_refused : (held : Option (List ℕ → Option (List ℕ))) (limit : ℕ) (texts files names : List (List ℕ)) (found : List (List Token)) (now there rest later last left : List (List ℕ)) (name : List ℕ) (tokens : List Token) (number : ℕ) (place : Place)
-    → Goes held limit texts files names found now there rest → rest ≡ name ∷ left → IsUnit held limit name now there tokens later last (Refused number place)
-    → AreUnits held limit texts files names (found ++ []) later last (Refused number place)
-goes_refused held limit texts files names found now there rest later last left name tokens number place goes split is =
-    goes.on [] later last (Refused number place) (subst (λ z. AreUnits held limit now there z [] later last (Refused number place)) (sym split)
-    (refused now there later last left name tokens number place is))
+pub goes_refused : (held : Option (List ℕ → Option (List ℕ))) (limit : ℕ) (texts files names : List (List ℕ)) (found : List (List Token)) (now there rest later last left : List (List ℕ)) (name : List ℕ) (r : Refusal)
+    → Goes held limit texts files names found now there rest → rest ≡ name ∷ left → IsRefusedUnit held limit name now there later last r
+    → AreUnits held limit texts files names (found ++ []) later last (Stopped r)
+goes_refused held limit texts files names found now there rest later last left name r goes split is =
+    goes.on [] later last (Stopped r) (subst (λ z. AreUnits held limit now there z [] later last (Stopped r)) (sym split)
+    (refused now there later last left name r is))
 
 pub goes_end : (held : Option (List ℕ → Option (List ℕ))) (limit : ℕ) (texts files names : List (List ℕ)) (found : List (List Token)) (now there rest : List (List ℕ))
-    → Goes held limit texts files names found now there rest → rest ≡ [] → AreUnits held limit texts files names found now there Ended
+    → Goes held limit texts files names found now there rest → rest ≡ [] → AreUnits held limit texts files names found now there Whole
 goes_end held limit texts files names found now there rest goes over =
-    subst (λ z. AreUnits held limit texts files names z now there Ended) (append-nil found)
-    (goes.on [] now there Ended (subst (λ z. AreUnits held limit now there z [] now there Ended) (sym over) (none now there)))
+    subst (λ z. AreUnits held limit texts files names z now there Whole) (append-nil found)
+    (goes.on [] now there Whole (subst (λ z. AreUnits held limit now there z [] now there Whole) (sym over) (none now there)))
 
 -- what is read of the units that are left stands behind the functions that were read
 pub record ReadsOn (texts : List (List ℕ)) (units : List (List Token)) (found : List FunctionTree) (rest : List (List Token)) : Type 0 where
@@ -98,32 +99,49 @@ refused_within ts left r = left_within r.front r.bad ts left r.split r.left_is
 
 -- ---- the answers of code
 
+-- a unit that its preprocessing does not end is not whole
+pub unit_stops : (Y : Type 0) (held : Option (List ℕ → Option (List ℕ))) (limit : ℕ) (name : List ℕ) (texts files later last : List (List ℕ)) (fault : UnitFault)
+    → IsFault (IsUnitRefused held limit name texts files last) fault → UnitEndsAs {Y = Y} held limit name texts files later last (Err fault)
+unit_stops Y held limit name texts files later last (stop.Refused r) told =
+    let is : IsUnitRefused held limit name texts files last r.number r.place = told.0 in (
+      is.later,
+      subst (λ z. IsRefusedUnit held limit name texts files is.later last (record { number = r.number; place = r.place; feature = z })) (sym told.1)
+          (by_preprocessor is.tokens r.number r.place is.refused),
+    )
+unit_stops Y held limit name texts files later last stop.Read told = tt
+unit_stops Y held limit name texts files later last stop.Memory told = tt
+
+pub unit_cause : (Y Z : Type 0) (before now : ℕ) (fault : UnitFault) → HasCause {A = Y} before now (Err fault) → HasUnitCause {A = Z} before now (Err fault)
+unit_cause Y Z before now (stop.Refused r) cause = cause
+unit_cause Y Z before now stop.Read cause = cause
+unit_cause Y Z before now stop.Memory cause = cause
+
 -- a unit that is not whole ends the units
 pub units_stop : (Y Z : Type 0) (held now_held : Option (List ℕ → Option (List ℕ))) (limit now_limit : ℕ) (texts files names : List (List ℕ)) (found : List (List Token)) (now there rest later last left : List (List ℕ)) (name : List ℕ) (fault : UnitFault)
     → now_held ≡ held → now_limit ≡ limit → Goes held limit texts files names found now there rest → rest ≡ name ∷ left
-    → IsFault (IsUnitRefused now_held now_limit name now there last) fault
+    → UnitEndsAs {Y = Y} now_held now_limit name now there later last (Err fault)
     → EndAs {Y = Y} {Z = Z} held limit texts files names later last (Err fault)
 units_stop Y Z held now_held limit now_limit texts files names found now there rest later last left name (stop.Refused r) same most goes split told =
-    let is : IsUnitRefused now_held now_limit name now there last r.number r.place = told.0 in
-    let moved : IsUnit held limit name now there is.tokens is.later last (Refused r.number r.place) = subst (λ h. IsUnit h limit name now there is.tokens is.later last (Refused r.number r.place)) same
-    (subst (λ m. IsUnit now_held m name now there is.tokens is.later last (Refused r.number r.place)) most is.refused) in
-    (found ++ [], is.later, goes_refused held limit texts files names found now there rest is.later last left name is.tokens r.number r.place goes split moved)
+    let is : IsRefusedUnit now_held now_limit name now there told.0 last r = told.1 in
+    let moved : IsRefusedUnit held limit name now there told.0 last r = subst (λ h. IsRefusedUnit h limit name now there told.0 last r) same
+    (subst (λ m. IsRefusedUnit now_held m name now there told.0 last r) most is) in
+    (found ++ [], told.0, goes_refused held limit texts files names found now there rest told.0 last left name r goes split moved)
 units_stop Y Z held now_held limit now_limit texts files names found now there rest later last left name stop.Read same most goes split told = tt
 units_stop Y Z held now_held limit now_limit texts files names found now there rest later last left name stop.Memory same most goes split told = tt
 
 -- the cause of a unit that is not whole, where nothing failed before it
 pub units_cause : (Y Z : Type 0) (start before now : ℕ) (fault : UnitFault) → before ≡ start
-    → HasCause {A = Y} before now (Err fault) → HasUnitCause {A = Z} start now (Err fault)
+    → HasUnitCause {A = Y} before now (Err fault) → HasUnitCause {A = Z} start now (Err fault)
 units_cause Y Z start before now (stop.Refused r) same cause = cause ∙ same
 units_cause Y Z start before now stop.Read same cause = subst (λ z. Rose z now × (z ≤ now)) same cause
 units_cause Y Z start before now stop.Memory same cause = cause ∙ same
 
 pub units_go : (held now_held : Option (List ℕ → Option (List ℕ))) (limit now_limit : ℕ) (texts files names : List (List ℕ)) (found : List (List Token)) (now there rest middle between left : List (List ℕ)) (name : List ℕ) (tokens : List Token)
-    → now_held ≡ held → now_limit ≡ limit → Goes held limit texts files names found now there rest → rest ≡ name ∷ left → IsUnit now_held now_limit name now there tokens middle between Ended
+    → now_held ≡ held → now_limit ≡ limit → Goes held limit texts files names found now there rest → rest ≡ name ∷ left → IsUnit now_held now_limit name now there tokens middle between Ended × HasTree middle tokens
     → Goes held limit texts files names (found ++ (tokens ∷ [])) middle between left
 units_go held now_held limit now_limit texts files names found now there rest middle between left name tokens same most goes split is =
     goes_next held limit texts files names found now there rest middle between left name tokens goes split
-    (subst (λ h. IsUnit h limit name now there tokens middle between Ended) same (subst (λ m. IsUnit now_held m name now there tokens middle between Ended) most is))
+    (subst (λ h. IsUnit h limit name now there tokens middle between Ended) same (subst (λ m. IsUnit now_held m name now there tokens middle between Ended) most is.0)) is.1
 
 -- a unit that is no text ends the reading
 pub reads_stop : (Y Z : Type 0) (texts : List (List ℕ)) (units rest left : List (List Token)) (found : List FunctionTree) (tokens : List Token) (fault : SetFault)

@@ -1,8 +1,8 @@
 -- which text a call writes, under which status, where nothing fails
 use Rattle.std.specs.Prelude.{◌≡◌, ℕ, ◌⊎◌, List, [], nat_eq, Option, Some, None, if◌then◌else◌}
 use Rattle.sb_base.specs.declared.refusals.Place.{Place}
+use Rattle.sb_base.specs.declared.refusals.Refusal.{Refusal}
 use Rattle.sb_base.specs.declared.tokens.Token.{Token}
-use Rattle.sb_prep.specs.Ending.{Ending, Ended, Refused as RefusedAt}
 use Rattle.sb_term.specs.AnswerOf.{answer_of}
 use Rattle.sb_top.specs.declared.status.Status.{Status}
 use Rattle.sb_top.specs.declared.status.Status.TheVariants.{Clean, Warned, Refused, Usage}
@@ -12,7 +12,7 @@ use Rattle.sb_top.specs.Walks.{report}
 use Rattle.sb_top.specs.Texts.{usage, refusal, count_of, report_text}
 use Rattle.sb_top.specs.Contract.{AreSafe}
 use Rattle.sb_top.specs.Words.{files_of_words}
-use Rattle.sb_top.specs.Sets.{most_names, AreUnits, AreRead, IsUnreadAt}
+use Rattle.sb_top.specs.Sets.{most_names, Ending, Whole, Stopped, AreUnits, AreRead, IsUnreadAt}
 
 -- a report is clean exactly where it has no warning
 abbrev pub status_of : List (List Warning) → Status
@@ -25,21 +25,21 @@ pub record IsReported (texts files : List (List ℕ)) (units : List (List Token)
   pub status_is : status ≡ status_of (report answer_of functions)
   pub text_is : text ≡ report_text files texts (report answer_of functions)
 
--- the number of a refusal of what is in no text of the grammar
-abbrev pub not_built_yet : ℕ
-not_built_yet = 33
+-- what is no text of the grammar that is checked, at a place, is not built yet
+abbrev pub not_built_yet : Place → Refusal
+not_built_yet at = record { number = 33; place = at; feature = 17 }
 
 -- what is written of units of which one does not read
 pub record IsUnread (texts files : List (List ℕ)) (units : List (List Token)) (status : Status) (text : List ℕ) : Type 0 where
   pub place : Place
   pub is_unread : IsUnreadAt texts units place
   pub status_is : status ≡ Refused
-  pub text_is : text ≡ refusal files place not_built_yet
+  pub text_is : text ≡ refusal files (not_built_yet place)
 
 -- what is written of units by how they end
 abbrev pub IsEndOf : List (List ℕ) → List (List ℕ) → List (List Token) → Ending → Status → List ℕ → Type 0
-IsEndOf texts files units Ended status text = IsReported texts files units status text ⊎ IsUnread texts files units status text
-IsEndOf texts files units (RefusedAt number place) status text = (status ≡ Refused) × (text ≡ refusal files place number)
+IsEndOf texts files units Whole status text = IsReported texts files units status text ⊎ IsUnread texts files units status text
+IsEndOf texts files units (Stopped r) status text = (status ≡ Refused) × (text ≡ refusal files r)
 
 -- what is written of some files: their units begin without names and without files
 pub record IsOutcome (held : Option (List ℕ → Option (List ℕ))) (names : List (List ℕ)) (status : Status) (text : List ℕ) : Type 0 where
@@ -69,7 +69,7 @@ pub record IsSet (held : List ℕ → Option (List ℕ)) (words : List (List ℕ
   pub files : List (List ℕ)
   pub units : List (List Token)
   pub asked : files_of_words words ≡ Some names
-  pub are_units : AreUnits (Some held) most_names [] [] names units texts files Ended
+  pub are_units : AreUnits (Some held) most_names [] [] names units texts files Whole
   pub are_read : AreRead texts units functions
 
 -- the functions that the words ask for are there, and each is safe

@@ -2,7 +2,7 @@
 use Rattle.std.specs.Prelude.{ℕ, ◌+◌, List, [], ◌∷◌, ◌++◌, length, slice_get, nat_eq, Option, Some, None, if◌then◌else◌, codes}
 use Rattle.std.specs.Fmt.{decimal, signed_decimal}
 use Rattle.std.specs.Option.{option_map_or}
-use Rattle.sb_base.specs.declared.refusals.Place.{Place}
+use Rattle.sb_base.specs.declared.refusals.Refusal.{Refusal}
 use Rattle.sb_term.specs.declared.sym.Sym.{Sym}
 use Rattle.sb_term.specs.declared.answer.Answer.{Answer}
 use Rattle.sb_term.specs.declared.answer.Answer.TheVariants.{Proved, Refuted, LimitRows, LimitDigits}
@@ -44,13 +44,43 @@ refused_for number =
     else (if nat_eq number 26 then codes "bad condition"
     else (if nat_eq number 27 then codes "error directive"
     else (if nat_eq number 28 then codes "too many names"
-    else (if nat_eq number 33 then codes "outside the profile: not built yet"
-    else codes "outside the profile")))))))))))))))))))
+    else (if nat_eq number 31 then codes "unexpected token"
+    else (if nat_eq number 32 then codes "too deep"
+    else (if nat_eq number 35 then codes "bad annotation"
+    else (if nat_eq number 36 then codes "unknown annotation"
+    else (if nat_eq number 37 then codes "annotation place"
+    else (if nat_eq number 38 then codes "too many parameters"
+    else codes "outside the profile"))))))))))))))))))))))))
+
+-- the features that are left out, from 1
+abbrev pub left_out : ℕ → List ℕ
+left_out feature =
+    if nat_eq feature 1 then codes "floating type"
+    else (if nat_eq feature 2 then codes "union"
+    else (if nat_eq feature 3 then codes "bit field"
+    else (if nat_eq feature 4 then codes "function pointer"
+    else (if nat_eq feature 5 then codes "variable length array"
+    else (if nat_eq feature 6 then codes "variable arguments"
+    else (if nat_eq feature 7 then codes "volatile"
+    else (if nat_eq feature 8 then codes "complex"
+    else (if nat_eq feature 9 then codes "old definition"
+    else (if nat_eq feature 10 then codes "backward goto"
+    else (if nat_eq feature 11 then codes "goto into a block"
+    else (if nat_eq feature 12 then codes "pointer cast"
+    else (if nat_eq feature 13 then codes "pointer and number cast"
+    else (if nat_eq feature 14 then codes "struct by value"
+    else (if nat_eq feature 15 then codes "designated initialiser"
+    else (if nat_eq feature 16 then codes "compound literal"
+    else codes "not built yet")))))))))))))))
+
+-- what stands behind the text of a refusal: for 33 the feature
+abbrev pub detail : Refusal → List ℕ
+detail r = if nat_eq r.number 33 then codes ": " ++ left_out r.feature else []
 
 -- FILE:LINE:COL: refused N: TEXT
-abbrev pub refusal : List (List ℕ) → Place → ℕ → List ℕ
-refusal files at number =
-    file_name files at.file ++ (codes ":" ++ (decimal at.line ++ (codes ":" ++ (decimal at.col ++ (codes ": refused " ++ (decimal number ++ (codes ": " ++ (refused_for number ++ codes "\n"))))))))
+abbrev pub refusal : List (List ℕ) → Refusal → List ℕ
+refusal files r =
+    file_name files r.place.file ++ (codes ":" ++ (decimal r.place.line ++ (codes ":" ++ (decimal r.place.col ++ (codes ": refused " ++ (decimal r.number ++ (codes ": " ++ (refused_for r.number ++ (detail r ++ codes "\n")))))))))
 
 abbrev pub text_of : Need → List ℕ
 text_of need.Present = codes "may be null"

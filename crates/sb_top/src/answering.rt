@@ -1,8 +1,8 @@
 //! The answer to the words of a command line: the files that they ask for are preprocessed, read and judged.
 ghost use Rattle.std.specs.Prelude.{◌≡◌, IfOk, map, string_bytes};
 ghost use Rattle.sb_base.specs.Found.{HasReadCause};
-ghost use Rattle.sb_prep.specs.Ending.Ending.{Ended};
 ghost use Rattle.sb_top.specs.Sets.{tokens_of};
+ghost use Rattle.sb_top.specs.Sets.Ending.{Whole};
 ghost use Rattle.sb_top.specs.Outcomes.{IsEndOf, IsDefined};
 
 use crate::command::files_of_words;
@@ -20,7 +20,7 @@ fn reply_to_units(
     files: &Files,
     units: &[Vec<Token>],
 ) -> Result<Reply, AllocError>
-    ensures { IfOk result (λ reply. IsEndOf names.now.texts files.now (tokens_of units.now) Ended reply.status reply.text.items) }
+    ensures { IfOk result (λ reply. IsEndOf names.now.texts files.now (tokens_of units.now) Whole reply.status reply.text.items) }
 {
     match read_units(alloc, names, units) {
         Ok(functions) => {

@@ -10,9 +10,6 @@ use sb_base::{Files, Names, Place, Refusal};
 use sqlite_items::Items;
 use std::alloc::{AllocError, Global};
 
-/// The number of a refusal of what is in no text of the grammar.
-const NOT_BUILT_YET: u16 = 33;
-
 /// A text, and the status under which it is written.
 #[derive(Drop)]
 pub(crate) struct Reply {
@@ -54,24 +51,24 @@ pub(crate) fn reported(
 /// The line of a refusal.
 pub(crate) fn refused(alloc: Global, files: &Files, refused: Refusal) -> Result<Reply, AllocError>
     ensures status { IfOk result (λ reply. reply.status ≡ Status.Refused) }
-    ensures text { IfOk result (λ reply. reply.text.items ≡ text.refusal files.now refused.place refused.number) }
+    ensures text { IfOk result (λ reply. reply.text.items ≡ text.refusal files.now refused) }
 {
-    let text = refusal(alloc, files, refused.place, refused.number)?;
+    let text = refusal(alloc, files, refused)?;
     Ok(Reply {
         status: Status::Refused,
         text,
     })
 }
 
-/// The refusal of a unit that is no text of the grammar, at a place.
+/// The refusal of a unit that is no text of the grammar that is checked, at a place.
 pub(crate) fn unread(alloc: Global, files: &Files, place: Place) -> Result<Reply, AllocError>
     ensures status { IfOk result (λ reply. reply.status ≡ Status.Refused) }
-    ensures text { IfOk result (λ reply. reply.text.items ≡ text.refusal files.now place not_built_yet) }
+    ensures text { IfOk result (λ reply. reply.text.items ≡ text.refusal files.now (not_built_yet place)) }
 {
     let refusal = Refusal {
-        number: NOT_BUILT_YET,
+        number: 33,
         place,
-        feature: 0,
+        feature: 17,
     };
     refused(alloc, files, refusal)
 }

@@ -2,14 +2,15 @@
 ghost use Rattle.std.specs.Prelude.{◌≡◌, ◌<◌, ◌≤◌, ◌-◌, ◌^◌, Some, length, map, max, slice_get, string_bytes};
 ghost use Rattle.sb_base.specs.Outside.{Rose};
 ghost use Rattle.sb_top.specs.Lexemes.{pieces_of};
-ghost use Rattle.sb_top.specs.Sets.{tokens_of, EndAs, ReadAs, UnitReadAs, HasUnitCause};
+ghost use Rattle.sb_top.specs.Sets.{tokens_of, EndAs, ReadAs, UnitEndsAs, UnitReadAs, HasUnitCause};
 
 use crate::files::read_file;
 use crate::lexeme::Piece;
 use crate::lexemes::pieces_of;
 use crate::reading::ReadFault;
 use crate::syntax::Function;
-use sb_base::{Files, Library, Names, Place, Token};
+use sb_base::{Files, Library, Names, Place, Stop, Token};
+use sb_decl::tree;
 use sb_prep::{UnitFault, unit};
 use std::alloc::{AllocError, Global};
 
@@ -34,6 +35,28 @@ impl From<AllocError> for SetFault {
 /// A unit is begun where at most so many files were met before it, which is more than 256 units meet.
 const MOST_FILES: u32 = 1 << 31;
 
+/// The tokens of a file's unit, which have to be the text of a translation unit.
+fn whole_unit<L: Library>(
+    alloc: Global,
+    names: &mut Names,
+    files: &mut Files,
+    lib: &mut L,
+    name: &[u8],
+) -> Result<Vec<Token>, UnitFault>
+    requires room { length files.old ≤ 2 ^ 31 }
+    ensures unit { UnitEndsAs (L.held lib.old) names.old.limit name.now names.old.texts files.old names.new.texts files.new result }
+    ensures limit { names.new.limit ≡ names.old.limit }
+    ensures held { L.held lib.new ≡ L.held lib.old }
+    ensures cause { HasUnitCause (L.faults lib.old) (L.faults lib.new) result }
+{
+    let tokens = unit(alloc, names, files, lib, name)?;
+    match tree(alloc, names, tokens.as_slice()) {
+        Ok(_tree) => Ok(tokens),
+        Err(Stop::Refused(refused)) => Err(UnitFault::Refused(refused)),
+        Err(Stop::Memory) => Err(UnitFault::Memory),
+    }
+}
+
 /// The tokens of the units of some files, in order. The tables of names and of files go through them.
 pub(crate) fn units<L: Library>(
     alloc: Global,
@@ -51,7 +74,7 @@ pub(crate) fn units<L: Library>(
         if files.count() > MOST_FILES {
             return Err(UnitFault::Memory);
         }
-        let tokens = unit(alloc, names, files, lib, name.as_bytes())?;
+        let tokens = whole_unit(alloc, names, files, lib, name.as_bytes())?;
         let Ok(()) = units.push(tokens) else {
             return Err(UnitFault::Memory);
         };

@@ -6,7 +6,7 @@ ghost use Rattle.sb_top.specs.Texts as text;
 
 use crate::picture::{Label, Part};
 use crate::warning::{Need, Warning};
-use sb_base::{Files, Names, Place};
+use sb_base::{Files, Names, Refusal};
 use sb_term::{Answer, Rat, Sym};
 use sqlite_items::Items;
 use std::alloc::{AllocError, Global};
@@ -48,24 +48,63 @@ fn refused_for(number: u16) -> &'static str
         26 => "bad condition",
         27 => "error directive",
         28 => "too many names",
-        33 => "outside the profile: not built yet",
+        31 => "unexpected token",
+        32 => "too deep",
+        35 => "bad annotation",
+        36 => "unknown annotation",
+        37 => "annotation place",
+        38 => "too many parameters",
         _ => "outside the profile",
     }
 }
 
-/// The line of a refusal.
-pub(crate) fn refusal(
-    alloc: Global,
-    files: &Files,
-    place: Place,
-    number: u16,
-) -> Result<Vec<u8>, AllocError>
-    ensures { IfOk result (λ line. line.items ≡ text.refusal files.now place number) }
+/// A feature that is left out.
+fn left_out(feature: u16) -> &'static str
+    ensures { result.now ≡ text.left_out feature }
 {
+    match feature {
+        1 => "floating type",
+        2 => "union",
+        3 => "bit field",
+        4 => "function pointer",
+        5 => "variable length array",
+        6 => "variable arguments",
+        7 => "volatile",
+        8 => "complex",
+        9 => "old definition",
+        10 => "backward goto",
+        11 => "goto into a block",
+        12 => "pointer cast",
+        13 => "pointer and number cast",
+        14 => "struct by value",
+        15 => "designated initialiser",
+        16 => "compound literal",
+        _ => "not built yet",
+    }
+}
+
+/// Appends the feature that a refusal names, if it names one.
+fn append_detail(out: &mut Vec<u8>, refused: Refusal) -> Result<(), AllocError>
+    ensures { OnOk result (out.new.items ≡ out.old.items ++ text.detail refused) }
+{
+    if refused.number == 33 {
+        out.extend_from_slice(b": ")?;
+        out.extend_from_slice(left_out(refused.feature).as_bytes())?;
+    }
+    Ok(())
+}
+
+/// The line of a refusal.
+pub(crate) fn refusal(alloc: Global, files: &Files, refused: Refusal) -> Result<Vec<u8>, AllocError>
+    ensures { IfOk result (λ line. line.items ≡ text.refusal files.now refused) }
+{
+    let Refusal { number, place, .. } = refused;
     let mut line = Vec::from_slice(alloc, file_name(files, place.file))?;
     let what = refused_for(number);
-    let rest = format!(in alloc; ":{}:{}: refused {number}: {what}\n", place.line, place.col)?;
+    let rest = format!(in alloc; ":{}:{}: refused {number}: {what}", place.line, place.col)?;
     line.extend_from_slice(rest.as_bytes())?;
+    append_detail(&mut line, refused)?;
+    line.extend_from_slice(b"\n")?;
     Ok(line)
 }
 

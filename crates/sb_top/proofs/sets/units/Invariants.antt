@@ -1,4 +1,4 @@
-use Rattle.std.proofs.Common.{◌≡◌, ◌+◌, ◌*◌, ◌≤◌, drop, length, map, string_bytes}
+use Rattle.std.proofs.Common.{◌≡◌, drop, map, string_bytes}
 use Rattle.sb_top.specs.Sets.{tokens_of}
 use Rattle.sb_top.proofs.UnitSteps.{Goes}
 use Rattle.sb_top.proofs.sets.units.Given as goal
