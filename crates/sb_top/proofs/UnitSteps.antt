@@ -11,7 +11,7 @@ use Rattle.sb_parse.proofs.Places.{none_is_refused}
 use Rattle.sb_prep.specs.Ending.{Ended}
 use Rattle.sb_prep.specs.Unit.{IsUnit}
 use Rattle.sb_prep.specs.Reading.{IsUnitRefused}
-use Rattle.sb_prep.specs.Stopping.{IsFault, HasCause}
+use Rattle.sb_prep.specs.Stopping.{IsFault}
 use Rattle.sb_prep.specs.declared.fault.UnitFault.{UnitFault}
 use Rattle.sb_prep.specs.declared.fault.UnitFault.TheVariants as stop
 use Rattle.sb_top.specs.declared.lexeme.Piece.{Piece}
@@ -110,11 +110,6 @@ unit_stops Y held limit name texts files later last (stop.Refused r) told =
     )
 unit_stops Y held limit name texts files later last stop.Read told = tt
 unit_stops Y held limit name texts files later last stop.Memory told = tt
-
-pub unit_cause : (Y Z : Type 0) (before now : ℕ) (fault : UnitFault) → HasCause {A = Y} before now (Err fault) → HasUnitCause {A = Z} before now (Err fault)
-unit_cause Y Z before now (stop.Refused r) cause = cause
-unit_cause Y Z before now stop.Read cause = cause
-unit_cause Y Z before now stop.Memory cause = cause
 
 -- a unit that is not whole ends the units
 pub units_stop : (Y Z : Type 0) (held now_held : Option (List ℕ → Option (List ℕ))) (limit now_limit : ℕ) (texts files names : List (List ℕ)) (found : List (List Token)) (now there rest later last left : List (List ℕ)) (name : List ℕ) (fault : UnitFault)
