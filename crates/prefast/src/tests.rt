@@ -319,8 +319,6 @@ fn texts_one_past_a_limit(rt: HostRuntime) -> Result<(), Fail> {
     let tokens = tenfold(alloc)?;
     let pieces = "a ".repeat(alloc, 1_000_001)?;
     let bytes = " ".repeat(alloc, 4_194_305)?;
-    let nested = format!(in alloc; "int x = {}1", "(".repeat(alloc, 198)?)?;
-    let parameters = format!(in alloc; "int f({}int);", "int, ".repeat(alloc, 32)?)?;
     for (text, line) in [
         (
             pieces.as_str(),
@@ -328,9 +326,44 @@ fn texts_one_past_a_limit(rt: HostRuntime) -> Result<(), Fail> {
         ),
         (tokens.as_str(), "t.c:7:4: refused 16: too many tokens\n"),
         (bytes.as_str(), "t.c:0:0: refused 22: file too long\n"),
-        (nested.as_str(), "t.c:1:206: refused 32: too deep\n"),
+    ] {
+        let files = [("t.c", text)];
+        let (answer, out) = checked(alloc, &files, &["t.c"], Vec::new(alloc), Vec::new(alloc))?;
+        assert_eq!(rt; answer, Status::Refused, "{line}");
+        assert_eq!(rt; out.bytes(), line.as_bytes(), "{line}");
+    }
+    Ok(())
+}
+
+/// An initialiser in one parenthesis more than a tree has room for.
+fn nested(alloc: Global) -> Result<String, AllocError> {
+    let mut text = String::from_str(alloc, "int x = ")?;
+    for _level in 0..198u8 {
+        text.push_str("(")?;
+    }
+    text.push_str("1")?;
+    Ok(text)
+}
+
+/// A function of 33 parameters.
+fn crowded(alloc: Global) -> Result<String, AllocError> {
+    let mut text = String::from_str(alloc, "int f(int")?;
+    for _parameter in 0..32u8 {
+        text.push_str(", int")?;
+    }
+    text.push_str(");")?;
+    Ok(text)
+}
+
+#[test]
+fn units_one_past_a_limit(rt: HostRuntime) -> Result<(), Fail> {
+    let alloc = rt.alloc();
+    let deep = nested(alloc)?;
+    let wide = crowded(alloc)?;
+    for (text, line) in [
+        (deep.as_str(), "t.c:1:206: refused 32: too deep\n"),
         (
-            parameters.as_str(),
+            wide.as_str(),
             "t.c:1:167: refused 38: too many parameters\n",
         ),
     ] {
