@@ -16,3 +16,10 @@ pub mod Words
 pub mod Lists
 pub mod Depths
 pub mod Leaving
+pub mod NoteWider
+pub mod EveryDepth
+pub mod Deepening
+pub mod ExprDeepening
+pub mod Lowered
+pub mod NoteDeepening
+pub mod SomeDepth

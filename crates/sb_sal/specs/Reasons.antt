@@ -8,11 +8,11 @@ use Rattle.sb_tree.specs.Trees.{ExprTree, ArgTree}
 use Rattle.sb_expr.specs.Expression.{Assignment, IsExpr}
 use Rattle.sb_expr.specs.Lexicon.{Lexicon}
 use Rattle.sb_expr.specs.Readers.{unexpected, too_deep, is_open, is_close, is_comma, is_star, begins_expr, bad_arguments, unknown, misplaced, bad_kind}
-use Rattle.sb_expr.specs.Reads.{IsStop}
+use Rattle.sb_expr.specs.Reads.{GoesOn, IsStop}
 use Rattle.sb_expr.specs.Reasons.{IsReason}
 use Rattle.sb_sal.specs.declared.spelling.Arguments.{Arguments}
 use Rattle.sb_sal.specs.declared.spelling.Arguments.TheVariants as arguments
-use Rattle.sb_sal.specs.Notes.{inside, IsLocation, IsValue, AreArguments}
+use Rattle.sb_sal.specs.Notes.{inside, IsLocation, IsValue, AreArguments, AreNotes}
 use Rattle.sb_sal.specs.Readers.{is_bare, is_arrow, is_place_name, continues}
 use Rattle.sb_sal.specs.Spellings.{arguments_of, is_listed, is_unlisted, is_mem}
 
@@ -104,7 +104,7 @@ pub data IsNoteReason (w : Lexicon) (may : Token → Bool) (front bad : List Tok
   in_expression : (before behind : List Token) (n : ℕ) → front ≡ before ++ behind → IsReason (inside w) (IsExpr (inside w) Assignment) behind bad n → IsNoteReason w may front bad n
   -- an annotation, or `*` or `->` of a location, for which there is no room
   deeper : (t : Token) (rest : List Token) → bad ≡ t ∷ rest → (is_listed w t || (is_star w t || is_arrow w t)) ≡ true → IsNoteReason w may front bad too_deep
-  -- elsewhere no text goes on, as the laws of the readers say
+  -- the end of the list, or a token with which no annotations go on, however deep: see `at_every_depth`
   no_text : IsNoteReason w may front bad unexpected
 
 -- a list is refused for a reason, at the first of its last `left` tokens
@@ -114,6 +114,10 @@ pub record IsRefusedNote (w : Lexicon) (may : Token → Bool) (ts : List Token) 
   pub split : ts ≡ front ++ bad
   pub left_is : left ≡ length bad
   pub reason : IsNoteReason w may front bad n
+  -- a refusal that is not for want of depth holds at every depth: no list goes on there, however deep
+  pub at_every_depth : (n ≡ too_deep → ⊥) → GoesOn (AreNotes w may) front bad → ⊥
+  -- for want of depth: a deeper list goes on there
+  pub at_some_depth : n ≡ too_deep → GoesOn (AreNotes w may) front bad
 
 -- an argument of an annotation begins at the first of the last `left` tokens
 pub record BeginsArgument (w : Lexicon) (ts : List Token) (left : ℕ) : Type 0 where
