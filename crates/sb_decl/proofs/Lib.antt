@@ -23,3 +23,17 @@ pub mod StatementTelling
 pub mod UnitTelling
 pub mod Bodies
 pub mod Externals
+pub mod StatementStarts
+pub mod WholeWider
+pub mod CrowdedWider
+pub mod TypedWider
+pub mod StatementWider
+pub mod UnitWider
+pub mod StatementPast
+pub mod StatementEnters
+pub mod StatementDeepens
+pub mod ItemDeepens
+pub mod CrowdedDeepens
+pub mod NamedDeepens
+pub mod StatementDepths
+pub mod UnitDeepens

@@ -21,6 +21,8 @@ use Rattle.sb_decl.specs.Readers.{defines, defined, external_behind, external, u
 use Rattle.sb_decl.specs.Reads.{IsUnitRead}
 use Rattle.sb_decl.specs.Reasons.{IsUnitReason, IsRefusedUnit, HasUnitReason}
 use Rattle.sb_decl.proofs.StatementTelling.{unit_reasons, lifted, statements_tell}
+use Rattle.sb_decl.proofs.UnitWider.{unit_at_every_depth}
+use Rattle.sb_decl.proofs.UnitDeepens.{unit_at_some_depth}
 
 module _ (texts : List (List ℕ)) (below : ℕ) (some : 1 ≤ below) where
   defined_tells : (o : Opening) (d : Declarator × ℕ) → Telling (unit_reasons texts) (defined texts below o d)
@@ -84,7 +86,15 @@ module _ (texts : List (List ℕ)) where
   pub unit_reason : (ts : List Token) (n k : ℕ) → unit_reader texts ts ≡ stop n k → IsRefusedUnit texts ts n k
   unit_reason ts n k e =
       let s : Stops (IsUnitReason texts) ts n k = subst (Tells (unit_reasons texts) ts) e (unit_tells ts) in
-      record { front = s.front; bad = s.bad; split = s.split; left_is = s.left_is; reason = s.why }
+      record {
+        front = s.front;
+        bad = s.bad;
+        split = s.split;
+        left_is = s.left_is;
+        reason = s.why;
+        at_every_depth = λ not_deep. unit_at_every_depth texts ts n k e not_deep s.front s.bad s.split s.left_is;
+        at_some_depth = λ deep. unit_at_some_depth texts ts k (e ∙ ap (λ z. stop z k) deep) s.front s.bad s.split s.left_is;
+      }
 
   pub unit_has_reason : {E : Type 0} (gives : Declarations → E → Type 0) (tokens : List Token) (result : Result E Stop) → IsUnitRead gives texts tokens result → HasUnitReason texts tokens result
   unit_has_reason gives tokens (Ok e) is = tt

@@ -6,12 +6,13 @@ use Rattle.sb_base.specs.declared.refusals.Stop.{Stop}
 use Rattle.sb_base.specs.declared.refusals.Stop.TheVariants.{Refused, Memory}
 use Rattle.sb_base.specs.declared.tokens.Token.{Token}
 use Rattle.sb_parse.specs.Parser.{at_next}
-use Rattle.sb_expr.specs.Reads.{IsStop}
+use Rattle.sb_expr.specs.Reads.{IsStop, GoesOn}
 use Rattle.sb_expr.specs.Readers.{unexpected, too_deep, unknown_before, is_open, is_colon}
 use Rattle.sb_sal.specs.Spellings.{is_listed, is_unlisted}
 use Rattle.sb_declare.specs.Specified.{reading}
 use Rattle.sb_declare.specs.Reasons.{IsDeclarationReason}
 use Rattle.sb_decl.specs.Readers.{begins_statement, goes_on_type}
+use Rattle.sb_decl.specs.Statement.{IsUnit}
 
 -- Behind the first tokens of a unit a list goes on badly. `now`: some typedef names, by which the tokens at the place are read.
 pub data IsUnitReason (texts : List (List ℕ)) (front bad : List Token) : ℕ → Type 0 where
@@ -23,7 +24,7 @@ pub data IsUnitReason (texts : List (List ℕ)) (front bad : List Token) : ℕ �
   deeper_note : (now : List Name) (before rest : List Token) (t s : Token) → front ≡ before ++ (t ∷ []) → bad ≡ s ∷ rest → is_listed (reading texts now) t ≡ true → is_open (reading texts now) s ≡ true → IsUnitReason texts front bad too_deep
   -- a word that looks like an annotation and is none, and is no label, as no colon follows
   no_annotation : (now : List Name) (before : List Token) (t : Token) → front ≡ before ++ (t ∷ []) → is_unlisted (reading texts now) t ≡ true → at_next (is_colon (reading texts now)) bad ≡ false → IsUnitReason texts front bad unknown_before
-  -- elsewhere no text goes on, as the laws of the readers say
+  -- the end of the list, or a token with which no unit goes on, however deep: see `at_every_depth`
   no_text : IsUnitReason texts front bad unexpected
 
 -- a list is refused for a reason, at the first of its last `left` tokens
@@ -33,6 +34,10 @@ pub record IsRefusedUnit (texts : List (List ℕ)) (ts : List Token) (n left : �
   pub split : ts ≡ front ++ bad
   pub left_is : left ≡ length bad
   pub reason : IsUnitReason texts front bad n
+  -- a refusal that is not for want of depth holds at every depth: no unit goes on there, however deep
+  pub at_every_depth : (n ≡ too_deep → ⊥) → GoesOn (IsUnit texts) front bad → ⊥
+  -- for want of depth: a deeper unit goes on there
+  pub at_some_depth : n ≡ too_deep → GoesOn (IsUnit texts) front bad
 
 pub record IsRefusedUnitBecause (texts : List (List ℕ)) (tokens : List Token) (r : Refusal) : Type 0 where
   pub number : ℕ
