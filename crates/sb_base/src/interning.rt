@@ -9,7 +9,7 @@ use std::marker::Model;
 use thiserror::Error;
 
 /// The number of a text in a table of names, from 0 in order of first use.
-#[derive(Clone, Copy, Debug, PartialEq, Eq)]
+#[derive(Clone, Copy, PartialEq, Eq)]
 pub struct Name(pub u32);
 
 /// Why a text got no number: the table holds as many as it may, or memory ran out.

@@ -19,6 +19,3 @@ pub use memory::{MemLibrary, MemSink};
 pub use outside::{FetchFault, Fetched, Library, PutFault, Sink};
 pub use refusals::{Place, Refusal, Stop};
 pub use tokens::{PpKind, Token};
-
-#[cfg(test)]
-mod tests;

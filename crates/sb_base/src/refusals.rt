@@ -3,7 +3,7 @@
 /// A place in a file: the file's number, its physical line and the byte in that line.
 ///
 /// Lines and columns count from 1. A file that could not be read whole has line 0 and column 0.
-#[derive(Clone, Copy, Debug, PartialEq, Eq)]
+#[derive(Clone, Copy, PartialEq, Eq)]
 pub struct Place {
     pub file: u32,
     pub line: u32,
@@ -14,7 +14,7 @@ pub struct Place {
 ///
 /// `feature` is the place of the feature in the list of those that are refused, for the one rule that
 /// names a feature, and 0 for each other rule.
-#[derive(Clone, Copy, Debug, PartialEq, Eq)]
+#[derive(Clone, Copy, PartialEq, Eq)]
 pub struct Refusal {
     pub number: u16,
     pub place: Place,
@@ -22,7 +22,7 @@ pub struct Refusal {
 }
 
 /// Why a reader stopped: the source is refused, or memory ran out.
-#[derive(Clone, Copy, Debug, PartialEq, Eq)]
+#[derive(Clone, Copy, PartialEq, Eq)]
 pub enum Stop {
     Refused(Refusal),
     Memory,

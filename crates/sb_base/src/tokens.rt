@@ -3,7 +3,7 @@ use crate::interning::Name;
 use crate::refusals::Place;
 
 /// What a preprocessing piece is (C99 6.4).
-#[derive(Clone, Copy, Debug, PartialEq, Eq)]
+#[derive(Clone, Copy, PartialEq, Eq)]
 pub enum PpKind {
     /// An identifier or a keyword (6.4.1, 6.4.2).
     Word,
@@ -22,7 +22,7 @@ pub enum PpKind {
 /// A token of a unit, once its directives are carried out and its macros replaced.
 ///
 /// `value` is that of a number or of a character, a negative one plus 2^64, and 0 for every other kind.
-#[derive(Clone, Copy, Debug, PartialEq, Eq)]
+#[derive(Clone, Copy, PartialEq, Eq)]
 pub struct Token {
     pub kind: PpKind,
     pub text: Name,

@@ -3,3 +3,15 @@ pub mod Heads
 pub mod Looping
 pub mod Reading
 pub mod Places
+pub mod Ways
+pub mod Seconds
+pub mod Descending
+pub mod Texts
+pub mod Halting
+pub mod Turning
+pub mod Choices
+pub mod Partly
+pub mod Explaining
+pub mod Tokens
+pub mod Alike
+pub mod Telling
