@@ -1,4 +1,3 @@
-pub mod Signs
 pub mod Trees
 pub mod Plain
 pub mod Depths

@@ -9,7 +9,7 @@ pub struct Scope {
 }
 
 /// A place in a list of tokens: the index of the next token, and how much deeper the syntax may go.
-#[derive(Clone, Copy, Debug)]
+#[derive(Clone, Copy)]
 pub struct Cursor<'a> {
     pub tokens: &'a [Token],
     pub next: usize,

@@ -1,12 +1,11 @@
 //! Declarations put together of their parts: constants, annotations, initialisers and declarators (C99 6.7, 6.9).
-ghost use Rattle.std.specs.Prelude.{◌≡◌, IfOk};
+ghost use Rattle.std.specs.Prelude.{◌≡◌};
 ghost use Rattle.std.specs.Option.{option_map};
 ghost use Rattle.sb_tree.specs.Trees as tree;
 ghost use Rattle.sb_tree.specs.Plain.{plain_arg, plain_args, plain_decl, plain_expr, plain_init, plain_inits, plain_item, plain_note, plain_notes, plain_stmt, plain_type, arg_list, init_list, note_list, optional_expr, optional_init, optional_stmt};
 
 use crate::syntax::{Arg, Decl, Expr, Init, Item, Note, Stmt, Storage, TypeName};
 use sb_base::{Name, Place};
-use std::alloc::{AllocError, Global};
 
 impl Item {
     /// A constant of an enumeration, with its value where one is written.
@@ -39,10 +38,10 @@ impl Arg {
 
     /// An annotation as an argument of another.
     #[tactic(auto, unfolding(crate::specs::Plain::plain_arg, crate::specs::Plain::plain_note))]
-    pub fn annotation(alloc: Global, note: Note) -> Result<Arg, AllocError>
-        ensures { IfOk result (λ a. plain_arg a ≡ tree.NoteArg (plain_note note)) }
+    pub fn annotation(note: Box<Note>) -> Arg
+        ensures { plain_arg result ≡ tree.NoteArg (plain_note note.value) }
     {
-        Ok(Arg::Note(Box::new(alloc, note)?))
+        Arg::Note(note)
     }
 }
 

@@ -1,13 +1,11 @@
 //! Expressions put together: each call makes one node of its parts (C99 6.5).
-ghost use Rattle.std.specs.Prelude.{◌≡◌, IfOk};
+ghost use Rattle.std.specs.Prelude.{◌≡◌};
 ghost use Rattle.sb_tree.specs.Trees as tree;
 ghost use Rattle.sb_tree.specs.Plain.{plain_expr, plain_exprs, plain_type, expr_list};
 
-use crate::boxing::boxed;
 use crate::operator::{BinaryOp, UnaryOp};
 use crate::syntax::{Expr, TypeName};
 use sb_base::{Name, Place};
-use std::alloc::{AllocError, Global};
 
 impl Expr {
     /// A number or a character constant.
@@ -36,167 +34,122 @@ impl Expr {
 
     /// An operator before or behind one operand.
     #[tactic(auto, unfolding(crate::specs::Plain::plain_expr))]
-    pub fn unary(alloc: Global, op: UnaryOp, of: Expr, place: Place) -> Result<Expr, AllocError>
-        ensures { IfOk result (λ e. plain_expr e ≡ tree.Unary op (plain_expr of) place) }
+    pub fn unary(op: UnaryOp, of: Box<Expr>, place: Place) -> Expr
+        ensures { plain_expr result ≡ tree.Unary op (plain_expr of.value) place }
     {
-        Ok(Expr::Unary {
-            op,
-            of: Box::new(alloc, of)?,
-            place,
-        })
+        Expr::Unary { op, of, place }
     }
 
     /// An operator between two operands.
     #[tactic(auto, unfolding(crate::specs::Plain::plain_expr))]
-    pub fn binary(
-        alloc: Global,
-        op: BinaryOp,
-        left: Expr,
-        right: Expr,
-        place: Place,
-    ) -> Result<Expr, AllocError>
-        ensures { IfOk result (λ e. plain_expr e ≡ tree.Binary op (plain_expr left) (plain_expr right) place) }
+    pub fn binary(op: BinaryOp, left: Box<Expr>, right: Box<Expr>, place: Place) -> Expr
+        ensures { plain_expr result ≡ tree.Binary op (plain_expr left.value) (plain_expr right.value) place }
     {
-        Ok(Expr::Binary {
+        Expr::Binary {
             op,
-            left: Box::new(alloc, left)?,
-            right: Box::new(alloc, right)?,
+            left,
+            right,
             place,
-        })
+        }
     }
 
     /// `=`, or an operator and `=`.
     #[tactic(auto, unfolding(crate::specs::Plain::plain_expr))]
-    pub fn assign(
-        alloc: Global,
-        op: Option<BinaryOp>,
-        to: Expr,
-        value: Expr,
-        place: Place,
-    ) -> Result<Expr, AllocError>
-        ensures { IfOk result (λ e. plain_expr e ≡ tree.Assign op (plain_expr to) (plain_expr value) place) }
+    pub fn assign(op: Option<BinaryOp>, to: Box<Expr>, value: Box<Expr>, place: Place) -> Expr
+        ensures { plain_expr result ≡ tree.Assign op (plain_expr to.value) (plain_expr value.value) place }
     {
-        Ok(Expr::Assign {
+        Expr::Assign {
             op,
-            to: Box::new(alloc, to)?,
-            value: Box::new(alloc, value)?,
+            to,
+            value,
             place,
-        })
+        }
     }
 
     /// `test ? yes : no`.
     #[tactic(auto, unfolding(crate::specs::Plain::plain_expr))]
-    pub fn cond(
-        alloc: Global,
-        test: Expr,
-        yes: Expr,
-        no: Expr,
-        place: Place,
-    ) -> Result<Expr, AllocError>
-        ensures { IfOk result (λ e. plain_expr e ≡ tree.Cond (plain_expr test) (plain_expr yes) (plain_expr no) place) }
+    pub fn cond(test: Box<Expr>, yes: Box<Expr>, no: Box<Expr>, place: Place) -> Expr
+        ensures { plain_expr result ≡ tree.Cond (plain_expr test.value) (plain_expr yes.value) (plain_expr no.value) place }
     {
-        Ok(Expr::Cond {
-            test: Box::new(alloc, test)?,
-            yes: Box::new(alloc, yes)?,
-            no: Box::new(alloc, no)?,
+        Expr::Cond {
+            test,
+            yes,
+            no,
             place,
-        })
+        }
     }
 
     /// A call.
     #[tactic(auto, unfolding(crate::specs::Plain::plain_expr))]
-    pub fn call(
-        alloc: Global,
-        callee: Expr,
-        args: Vec<Expr>,
-        place: Place,
-    ) -> Result<Expr, AllocError>
-        ensures { IfOk result (λ e. plain_expr e ≡ tree.Call (plain_expr callee) (expr_list (plain_exprs args.items)) place) }
+    pub fn call(callee: Box<Expr>, args: Vec<Expr>, place: Place) -> Expr
+        ensures { plain_expr result ≡ tree.Call (plain_expr callee.value) (expr_list (plain_exprs args.items)) place }
     {
-        Ok(Expr::Call {
-            callee: Box::new(alloc, callee)?,
+        Expr::Call {
+            callee,
             args,
             place,
-        })
+        }
     }
 
     /// `base[at]`.
     #[tactic(auto, unfolding(crate::specs::Plain::plain_expr))]
-    pub fn index(alloc: Global, base: Expr, at: Expr, place: Place) -> Result<Expr, AllocError>
-        ensures { IfOk result (λ e. plain_expr e ≡ tree.Index (plain_expr base) (plain_expr at) place) }
+    pub fn index(base: Box<Expr>, at: Box<Expr>, place: Place) -> Expr
+        ensures { plain_expr result ≡ tree.Index (plain_expr base.value) (plain_expr at.value) place }
     {
-        Ok(Expr::Index {
-            base: Box::new(alloc, base)?,
-            at: Box::new(alloc, at)?,
-            place,
-        })
+        Expr::Index { base, at, place }
     }
 
     /// A member, by `->` if `arrow`, else by `.`.
     #[tactic(auto, unfolding(crate::specs::Plain::plain_expr))]
-    pub fn member(
-        alloc: Global,
-        of: Expr,
-        arrow: bool,
-        name: Name,
-        name_place: Place,
-        place: Place,
-    ) -> Result<Expr, AllocError>
-        ensures { IfOk result (λ e. plain_expr e ≡ tree.Member (plain_expr of) arrow name name_place place) }
+    pub fn member(of: Box<Expr>, arrow: bool, name: Name, name_place: Place, place: Place) -> Expr
+        ensures { plain_expr result ≡ tree.Member (plain_expr of.value) arrow name name_place place }
     {
-        Ok(Expr::Member {
-            of: Box::new(alloc, of)?,
+        Expr::Member {
+            of,
             arrow,
             name,
             name_place,
             place,
-        })
+        }
     }
 
     /// `(to) of`.
     #[tactic(auto, unfolding(crate::specs::Plain::plain_expr, crate::specs::Plain::plain_type))]
-    pub fn cast(alloc: Global, to: TypeName, of: Expr, place: Place) -> Result<Expr, AllocError>
-        ensures { IfOk result (λ e. plain_expr e ≡ tree.Cast (plain_type to) (plain_expr of) place) }
+    pub fn cast(to: Box<TypeName>, of: Box<Expr>, place: Place) -> Expr
+        ensures { plain_expr result ≡ tree.Cast (plain_type to.value) (plain_expr of.value) place }
     {
-        Ok(Expr::Cast {
-            to: Box::new(alloc, to)?,
-            of: Box::new(alloc, of)?,
-            place,
-        })
+        Expr::Cast { to, of, place }
     }
 
     /// `sizeof (named)`.
     #[tactic(auto, unfolding(crate::specs::Plain::plain_expr, crate::specs::Plain::plain_type))]
-    pub fn size_of_type(alloc: Global, named: TypeName, place: Place) -> Result<Expr, AllocError>
-        ensures { IfOk result (λ e. plain_expr e ≡ tree.SizeOfType (plain_type named) place) }
+    pub fn size_of_type(named: Box<TypeName>, place: Place) -> Expr
+        ensures { plain_expr result ≡ tree.SizeOfType (plain_type named.value) place }
     {
-        Ok(Expr::SizeOf {
-            named: boxed(alloc, Some(named))?,
+        Expr::SizeOf {
+            named: Some(named),
             of: None,
             place,
-        })
+        }
     }
 
     /// `sizeof of`.
     #[tactic(auto, unfolding(crate::specs::Plain::plain_expr))]
-    pub fn size_of_expr(alloc: Global, of: Expr, place: Place) -> Result<Expr, AllocError>
-        ensures { IfOk result (λ e. plain_expr e ≡ tree.SizeOfExpr (plain_expr of) place) }
+    pub fn size_of_expr(of: Box<Expr>, place: Place) -> Expr
+        ensures { plain_expr result ≡ tree.SizeOfExpr (plain_expr of.value) place }
     {
-        Ok(Expr::SizeOf {
+        Expr::SizeOf {
             named: None,
-            of: boxed(alloc, Some(of))?,
+            of: Some(of),
             place,
-        })
+        }
     }
 
     /// An expression in parentheses.
     #[tactic(auto, unfolding(crate::specs::Plain::plain_expr))]
-    pub fn paren(alloc: Global, of: Expr, place: Place) -> Result<Expr, AllocError>
-        ensures { IfOk result (λ e. plain_expr e ≡ tree.Paren (plain_expr of) place) }
+    pub fn paren(of: Box<Expr>, place: Place) -> Expr
+        ensures { plain_expr result ≡ tree.Paren (plain_expr of.value) place }
     {
-        Ok(Expr::Paren {
-            of: Box::new(alloc, of)?,
-            place,
-        })
+        Expr::Paren { of, place }
     }
 }

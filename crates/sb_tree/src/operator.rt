@@ -1,7 +1,7 @@
 //! The operators of expressions (C99 6.5).
 
 /// An operator before or behind one operand (6.5.2.4, 6.5.3).
-#[derive(Clone, Copy, Debug, PartialEq, Eq)]
+#[derive(Clone, Copy)]
 pub enum UnaryOp {
     Plus,
     Minus,
@@ -16,7 +16,7 @@ pub enum UnaryOp {
 }
 
 /// An operator between two operands that groups to the left (6.5.5 to 6.5.14, 6.5.17).
-#[derive(Clone, Copy, Debug, PartialEq, Eq)]
+#[derive(Clone, Copy)]
 pub enum BinaryOp {
     Mul,
     Div,

@@ -1,13 +1,11 @@
 //! Statements put together: each call makes one node of its parts (C99 6.8).
-ghost use Rattle.std.specs.Prelude.{◌≡◌, IfOk};
+ghost use Rattle.std.specs.Prelude.{◌≡◌};
 ghost use Rattle.std.specs.Option.{option_map};
 ghost use Rattle.sb_tree.specs.Trees as tree;
-ghost use Rattle.sb_tree.specs.Plain.{plain_expr, plain_stmt, plain_stmts, plain_decls, stmt_list, decl_list, optional_expr, optional_stmt};
+ghost use Rattle.sb_tree.specs.Plain.{boxed, plain_expr, plain_stmt, plain_stmts, plain_decls, stmt_list, decl_list, optional_expr, optional_stmt};
 
-use crate::boxing::boxed;
 use crate::syntax::{Decl, Expr, Stmt};
 use sb_base::{Name, Place};
-use std::alloc::{AllocError, Global};
 
 impl Stmt {
     /// Statements in braces.
@@ -36,120 +34,83 @@ impl Stmt {
 
     /// `if`, with what follows `else` where there is one.
     #[tactic(auto)]
-    pub fn if_else(
-        alloc: Global,
-        test: Expr,
-        yes: Stmt,
-        no: Option<Stmt>,
-        place: Place,
-    ) -> Result<Stmt, AllocError>
-        ensures { IfOk result (λ s. plain_stmt s ≡ tree.If (plain_expr test) (plain_stmt yes) (optional_stmt (option_map plain_stmt no)) place) }
+    pub fn if_else(test: Expr, yes: Box<Stmt>, no: Option<Box<Stmt>>, place: Place) -> Stmt
+        ensures { plain_stmt result ≡ tree.If (plain_expr test) (plain_stmt yes.value) (optional_stmt (option_map plain_stmt (boxed no))) place }
     {
-        let no = boxed(alloc, no)?;
-        Ok(Stmt::If {
+        Stmt::If {
             test,
-            yes: Box::new(alloc, yes)?,
+            yes,
             no,
             place,
-        })
+        }
     }
 
     /// `while`.
     #[tactic(auto, unfolding(crate::specs::Plain::plain_stmt, crate::specs::Plain::plain_expr))]
-    pub fn while_loop(
-        alloc: Global,
-        test: Expr,
-        body: Stmt,
-        place: Place,
-    ) -> Result<Stmt, AllocError>
-        ensures { IfOk result (λ s. plain_stmt s ≡ tree.While (plain_expr test) (plain_stmt body) place) }
+    pub fn while_loop(test: Expr, body: Box<Stmt>, place: Place) -> Stmt
+        ensures { plain_stmt result ≡ tree.While (plain_expr test) (plain_stmt body.value) place }
     {
-        Ok(Stmt::While {
-            test,
-            body: Box::new(alloc, body)?,
-            place,
-        })
+        Stmt::While { test, body, place }
     }
 
     /// `do`.
     #[tactic(auto, unfolding(crate::specs::Plain::plain_stmt, crate::specs::Plain::plain_expr))]
-    pub fn do_loop(alloc: Global, body: Stmt, test: Expr, place: Place) -> Result<Stmt, AllocError>
-        ensures { IfOk result (λ s. plain_stmt s ≡ tree.Do (plain_stmt body) (plain_expr test) place) }
+    pub fn do_loop(body: Box<Stmt>, test: Expr, place: Place) -> Stmt
+        ensures { plain_stmt result ≡ tree.Do (plain_stmt body.value) (plain_expr test) place }
     {
-        Ok(Stmt::Do {
-            body: Box::new(alloc, body)?,
-            test,
-            place,
-        })
+        Stmt::Do { body, test, place }
     }
 
     /// `for`; what stands first in it may be a declaration.
     #[tactic(auto, unfolding(crate::specs::Plain::plain_stmt, crate::specs::Plain::plain_expr))]
     pub fn for_loop(
-        alloc: Global,
-        first: Option<Stmt>,
+        first: Option<Box<Stmt>>,
         test: Option<Expr>,
         step: Option<Expr>,
-        body: Stmt,
+        body: Box<Stmt>,
         place: Place,
-    ) -> Result<Stmt, AllocError>
-        ensures { IfOk result (λ s. plain_stmt s ≡ tree.For (optional_stmt (option_map plain_stmt first)) (optional_expr (option_map plain_expr test)) (optional_expr (option_map plain_expr step)) (plain_stmt body) place) }
+    ) -> Stmt
+        ensures { plain_stmt result ≡ tree.For (optional_stmt (option_map plain_stmt (boxed first))) (optional_expr (option_map plain_expr test)) (optional_expr (option_map plain_expr step)) (plain_stmt body.value) place }
     {
-        let first = boxed(alloc, first)?;
-        Ok(Stmt::For {
+        Stmt::For {
             first,
             test,
             step,
-            body: Box::new(alloc, body)?,
+            body,
             place,
-        })
+        }
     }
 
     /// `switch`.
     #[tactic(auto, unfolding(crate::specs::Plain::plain_stmt, crate::specs::Plain::plain_expr))]
-    pub fn switch(alloc: Global, on: Expr, body: Stmt, place: Place) -> Result<Stmt, AllocError>
-        ensures { IfOk result (λ s. plain_stmt s ≡ tree.Switch (plain_expr on) (plain_stmt body) place) }
+    pub fn switch(on: Expr, body: Box<Stmt>, place: Place) -> Stmt
+        ensures { plain_stmt result ≡ tree.Switch (plain_expr on) (plain_stmt body.value) place }
     {
-        Ok(Stmt::Switch {
-            on,
-            body: Box::new(alloc, body)?,
-            place,
-        })
+        Stmt::Switch { on, body, place }
     }
 
     /// A statement behind `case`.
     #[tactic(auto, unfolding(crate::specs::Plain::plain_stmt, crate::specs::Plain::plain_expr))]
-    pub fn case(alloc: Global, value: Expr, body: Stmt, place: Place) -> Result<Stmt, AllocError>
-        ensures { IfOk result (λ s. plain_stmt s ≡ tree.Case (plain_expr value) (plain_stmt body) place) }
+    pub fn case(value: Expr, body: Box<Stmt>, place: Place) -> Stmt
+        ensures { plain_stmt result ≡ tree.Case (plain_expr value) (plain_stmt body.value) place }
     {
-        Ok(Stmt::Case {
-            value,
-            body: Box::new(alloc, body)?,
-            place,
-        })
+        Stmt::Case { value, body, place }
     }
 
     /// A statement behind `default`.
     #[tactic(auto, unfolding(crate::specs::Plain::plain_stmt))]
-    pub fn default_case(alloc: Global, body: Stmt, place: Place) -> Result<Stmt, AllocError>
-        ensures { IfOk result (λ s. plain_stmt s ≡ tree.Default (plain_stmt body) place) }
+    pub fn default_case(body: Box<Stmt>, place: Place) -> Stmt
+        ensures { plain_stmt result ≡ tree.Default (plain_stmt body.value) place }
     {
-        Ok(Stmt::Default {
-            body: Box::new(alloc, body)?,
-            place,
-        })
+        Stmt::Default { body, place }
     }
 
     /// A statement behind a label.
     #[tactic(auto, unfolding(crate::specs::Plain::plain_stmt))]
-    pub fn label(alloc: Global, name: Name, body: Stmt, place: Place) -> Result<Stmt, AllocError>
-        ensures { IfOk result (λ s. plain_stmt s ≡ tree.Label name (plain_stmt body) place) }
+    pub fn label(name: Name, body: Box<Stmt>, place: Place) -> Stmt
+        ensures { plain_stmt result ≡ tree.Label name (plain_stmt body.value) place }
     {
-        Ok(Stmt::Label {
-            name,
-            body: Box::new(alloc, body)?,
-            place,
-        })
+        Stmt::Label { name, body, place }
     }
 
     /// `goto`.

@@ -137,7 +137,7 @@ pub enum Arg {
 }
 
 /// How a declaration is stored (6.7.1).
-#[derive(Clone, Copy, Debug, PartialEq, Eq)]
+#[derive(Clone, Copy)]
 pub enum Storage {
     Plain,
     Typedef,

@@ -1,13 +1,11 @@
 //! Types put together as they are written: each call makes one node of its parts (C99 6.7.2, 6.7.5, 6.7.6).
-ghost use Rattle.std.specs.Prelude.{◌≡◌, IfOk};
+ghost use Rattle.std.specs.Prelude.{◌≡◌};
 ghost use Rattle.std.specs.Option.{option_map};
 ghost use Rattle.sb_tree.specs.Trees as tree;
-ghost use Rattle.sb_tree.specs.Plain.{plain_expr, plain_type, plain_decls, plain_items, decl_list, listed, optional_expr, optional_decls, optional_items};
+ghost use Rattle.sb_tree.specs.Plain.{boxed, plain_expr, plain_type, plain_decls, plain_items, decl_list, listed, optional_expr, optional_decls, optional_items};
 
-use crate::boxing::boxed;
 use crate::syntax::{Decl, Expr, Item, TypeName};
 use sb_base::{Name, Place};
-use std::alloc::{AllocError, Global};
 
 impl TypeName {
     /// A type that keywords name, by its code.
@@ -20,53 +18,38 @@ impl TypeName {
 
     /// A type with `const`.
     #[tactic(auto, unfolding(crate::specs::Plain::plain_type))]
-    pub fn constant(alloc: Global, of: TypeName) -> Result<TypeName, AllocError>
-        ensures { IfOk result (λ t. plain_type t ≡ tree.Const (plain_type of)) }
+    pub fn constant(of: Box<TypeName>) -> TypeName
+        ensures { plain_type result ≡ tree.Const (plain_type of.value) }
     {
-        Ok(TypeName::Const(Box::new(alloc, of)?))
+        TypeName::Const(of)
     }
 
     /// A pointer to a type.
     #[tactic(auto, unfolding(crate::specs::Plain::plain_type))]
-    pub fn pointer(alloc: Global, to: TypeName, place: Place) -> Result<TypeName, AllocError>
-        ensures { IfOk result (λ t. plain_type t ≡ tree.Pointer (plain_type to) place) }
+    pub fn pointer(to: Box<TypeName>, place: Place) -> TypeName
+        ensures { plain_type result ≡ tree.Pointer (plain_type to.value) place }
     {
-        Ok(TypeName::Pointer(Box::new(alloc, to)?, place))
+        TypeName::Pointer(to, place)
     }
 
     /// An array, with its length where one is written.
     #[tactic(auto, unfolding(crate::specs::Plain::plain_type, crate::specs::Plain::plain_expr))]
-    pub fn array(
-        alloc: Global,
-        of: TypeName,
-        length: Option<Expr>,
-        place: Place,
-    ) -> Result<TypeName, AllocError>
-        ensures { IfOk result (λ t. plain_type t ≡ tree.Array (plain_type of) (optional_expr (option_map plain_expr length)) place) }
+    pub fn array(of: Box<TypeName>, length: Option<Box<Expr>>, place: Place) -> TypeName
+        ensures { plain_type result ≡ tree.Array (plain_type of.value) (optional_expr (option_map plain_expr (boxed length))) place }
     {
-        let length = boxed(alloc, length)?;
-        Ok(TypeName::Array {
-            of: Box::new(alloc, of)?,
-            length,
-            place,
-        })
+        TypeName::Array { of, length, place }
     }
 
     /// A function with its parameters.
     #[tactic(auto, unfolding(crate::specs::Plain::plain_type, crate::specs::Plain::plain_decl))]
-    pub fn function(
-        alloc: Global,
-        returned: TypeName,
-        params: Vec<Decl>,
-        place: Place,
-    ) -> Result<TypeName, AllocError>
-        ensures { IfOk result (λ t. plain_type t ≡ tree.Function (plain_type returned) (decl_list (plain_decls params.items)) place) }
+    pub fn function(returned: Box<TypeName>, params: Vec<Decl>, place: Place) -> TypeName
+        ensures { plain_type result ≡ tree.Function (plain_type returned.value) (decl_list (plain_decls params.items)) place }
     {
-        Ok(TypeName::Function {
-            result: Box::new(alloc, returned)?,
+        TypeName::Function {
+            result: returned,
             params,
             place,
-        })
+        }
     }
 
     /// A structure, with its members where they are written.
@@ -107,9 +90,9 @@ impl TypeName {
 
     /// A declarator in parentheses.
     #[tactic(auto, unfolding(crate::specs::Plain::plain_type))]
-    pub fn paren(alloc: Global, of: TypeName, place: Place) -> Result<TypeName, AllocError>
-        ensures { IfOk result (λ t. plain_type t ≡ tree.ParenType (plain_type of) place) }
+    pub fn paren(of: Box<TypeName>, place: Place) -> TypeName
+        ensures { plain_type result ≡ tree.ParenType (plain_type of.value) place }
     {
-        Ok(TypeName::Paren(Box::new(alloc, of)?, place))
+        TypeName::Paren(of, place)
     }
 }

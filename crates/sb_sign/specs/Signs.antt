@@ -6,10 +6,10 @@ use Rattle.sb_base.specs.declared.interning.Name.{Name}
 use Rattle.sb_base.specs.declared.tokens.PpKind.{PpKind}
 use Rattle.sb_base.specs.declared.tokens.PpKind.TheVariants as kind
 use Rattle.sb_base.specs.declared.tokens.Token.{Token}
-use Rattle.sb_tree.specs.declared.sign.Keyword.{Keyword}
-use Rattle.sb_tree.specs.declared.sign.Keyword.TheVariants as keyword
-use Rattle.sb_tree.specs.declared.sign.Mark.{Mark}
-use Rattle.sb_tree.specs.declared.sign.Mark.TheVariants as mark
+use Rattle.sb_sign.specs.declared.sign.Keyword.{Keyword}
+use Rattle.sb_sign.specs.declared.sign.Keyword.TheVariants as keyword
+use Rattle.sb_sign.specs.declared.sign.Mark.{Mark}
+use Rattle.sb_sign.specs.declared.sign.Mark.TheVariants as mark
 
 -- the keywords and punctuators, one spelling of each
 abbrev pub own_words : List (List ℕ)

@@ -1,11 +1,11 @@
 //! What a token is to the grammar: a keyword, a punctuator, an identifier, a constant or a string literal (C99 6.4).
 ghost use Rattle.std.specs.Prelude.{◌≡◌};
-ghost use Rattle.sb_tree.specs.Signs as spec;
+ghost use Rattle.sb_sign.specs.Signs as spec;
 
 use sb_base::{Name, Names, PpKind, Token};
 
 /// A keyword (6.4.1).
-#[derive(Clone, Copy, Debug, PartialEq, Eq)]
+#[derive(Clone, Copy)]
 pub enum Keyword {
     Auto,
     Break,
@@ -47,7 +47,7 @@ pub enum Keyword {
 }
 
 /// A punctuator (6.4.6). A digraph is the bracket or brace that it stands for.
-#[derive(Clone, Copy, Debug, PartialEq, Eq)]
+#[derive(Clone, Copy)]
 pub enum Mark {
     OpenBracket,
     CloseBracket,
@@ -118,20 +118,32 @@ fn spelling_of<'a>(names: &'a Names, token: &Token) -> &'a [u8]
 fn short_keyword(text: &[u8]) -> Option<Keyword>
     ensures { result ≡ spec.short_keyword text.now }
 {
-    match text {
-        b"auto" => Some(Keyword::Auto),
-        b"case" => Some(Keyword::Case),
-        b"char" => Some(Keyword::Char),
-        b"do" => Some(Keyword::Do),
-        b"else" => Some(Keyword::Else),
-        b"enum" => Some(Keyword::Enum),
-        b"for" => Some(Keyword::For),
-        b"goto" => Some(Keyword::Goto),
-        b"if" => Some(Keyword::If),
-        b"int" => Some(Keyword::Int),
-        b"long" => Some(Keyword::Long),
-        b"void" => Some(Keyword::Void),
-        _ => None,
+    if text == b"auto".as_slice() {
+        Some(Keyword::Auto)
+    } else if text == b"case".as_slice() {
+        Some(Keyword::Case)
+    } else if text == b"char".as_slice() {
+        Some(Keyword::Char)
+    } else if text == b"do".as_slice() {
+        Some(Keyword::Do)
+    } else if text == b"else".as_slice() {
+        Some(Keyword::Else)
+    } else if text == b"enum".as_slice() {
+        Some(Keyword::Enum)
+    } else if text == b"for".as_slice() {
+        Some(Keyword::For)
+    } else if text == b"goto".as_slice() {
+        Some(Keyword::Goto)
+    } else if text == b"if".as_slice() {
+        Some(Keyword::If)
+    } else if text == b"int".as_slice() {
+        Some(Keyword::Int)
+    } else if text == b"long".as_slice() {
+        Some(Keyword::Long)
+    } else if text == b"void".as_slice() {
+        Some(Keyword::Void)
+    } else {
+        None
     }
 }
 
@@ -139,15 +151,22 @@ fn short_keyword(text: &[u8]) -> Option<Keyword>
 fn keyword_of_five(text: &[u8]) -> Option<Keyword>
     ensures { result ≡ spec.keyword_of_five text.now }
 {
-    match text {
-        b"break" => Some(Keyword::Break),
-        b"const" => Some(Keyword::Const),
-        b"float" => Some(Keyword::Float),
-        b"short" => Some(Keyword::Short),
-        b"union" => Some(Keyword::Union),
-        b"while" => Some(Keyword::While),
-        b"_Bool" => Some(Keyword::Bool),
-        _ => None,
+    if text == b"break".as_slice() {
+        Some(Keyword::Break)
+    } else if text == b"const".as_slice() {
+        Some(Keyword::Const)
+    } else if text == b"float".as_slice() {
+        Some(Keyword::Float)
+    } else if text == b"short".as_slice() {
+        Some(Keyword::Short)
+    } else if text == b"union".as_slice() {
+        Some(Keyword::Union)
+    } else if text == b"while".as_slice() {
+        Some(Keyword::While)
+    } else if text == b"_Bool".as_slice() {
+        Some(Keyword::Bool)
+    } else {
+        None
     }
 }
 
@@ -302,11 +321,14 @@ fn pair(text: &[u8]) -> Option<Mark>
 fn triple(text: &[u8]) -> Option<Mark>
     ensures { result ≡ spec.triple text.now }
 {
-    match text {
-        b"..." => Some(Mark::Ellipsis),
-        b"<<=" => Some(Mark::ShiftLeftAssign),
-        b">>=" => Some(Mark::ShiftRightAssign),
-        _ => None,
+    if text == b"...".as_slice() {
+        Some(Mark::Ellipsis)
+    } else if text == b"<<=".as_slice() {
+        Some(Mark::ShiftLeftAssign)
+    } else if text == b">>=".as_slice() {
+        Some(Mark::ShiftRightAssign)
+    } else {
+        None
     }
 }
 
@@ -351,12 +373,26 @@ pub fn name_of(names: &Names, token: &Token) -> Option<Name>
     }
 }
 
+/// Its place in the list of the punctuators.
+fn number_of_mark(mark: Mark) -> u8
+    ensures { result ≡ spec.number_of_mark mark }
+{
+    mark as u8
+}
+
+/// Its place in the list of the keywords.
+fn number_of_keyword(keyword: Keyword) -> u8
+    ensures { result ≡ spec.number_of_keyword keyword }
+{
+    keyword as u8
+}
+
 /// Whether a token is this punctuator.
 pub fn is_mark(names: &Names, mark: Mark, token: &Token) -> bool
     ensures { result ≡ spec.is_mark names.now.texts mark token.now }
 {
     match mark_of(names, token) {
-        Some(found) => mark == found,
+        Some(found) => number_of_mark(mark) == number_of_mark(found),
         None => false,
     }
 }
@@ -366,7 +402,7 @@ pub fn is_keyword(names: &Names, keyword: Keyword, token: &Token) -> bool
     ensures { result ≡ spec.is_keyword names.now.texts keyword token.now }
 {
     match keyword_of(names, token) {
-        Some(found) => keyword == found,
+        Some(found) => number_of_keyword(keyword) == number_of_keyword(found),
         None => false,
     }
 }
