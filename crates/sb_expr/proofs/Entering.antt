@@ -10,15 +10,16 @@ use Rattle.sb_base.specs.declared.refusals.Stop.{Stop}
 use Rattle.sb_base.specs.declared.refusals.Stop.TheVariants as stop
 use Rattle.sb_base.specs.declared.tokens.Token.{Token}
 use Rattle.sb_parse.specs.Parser.{Outcome, Parser, done}
-use Rattle.sb_expr.specs.declared.reading.ReadFault.{ReadFault}
-use Rattle.sb_expr.specs.declared.reading.ReadFault.TheVariants.{Refused, Memory}
-use Rattle.sb_expr.specs.Calls.{IsStopBy, MakesType}
+use Rattle.sb_lexicon.specs.declared.reading.ReadFault.{ReadFault}
+use Rattle.sb_lexicon.specs.declared.reading.ReadFault.TheVariants.{Refused, Memory}
+use Rattle.sb_expr.specs.Calls.{MakesType}
+use Rattle.sb_lexicon.specs.Outcomes.{IsStopBy, IsOutcome}
 use Rattle.sb_expr.specs.declared.pieces.Piece.{Piece}
 use Rattle.sb_expr.specs.Pieces.{Declared, typed, type_of}
 use Rattle.sb_tree.specs.declared.syntax.TypeName.{TypeName}
 use Rattle.sb_tree.specs.Plain.{plain_type}
-use Rattle.sb_expr.specs.Meaning.{IsFault, stop_number, plain_pieces}
-use Rattle.sb_expr.specs.Reads.{IsOutcome}
+use Rattle.sb_expr.specs.Meaning.{plain_pieces}
+use Rattle.sb_lexicon.specs.Meaning.{IsFault, stop_number}
 use Rattle.sb_expr.proofs.Leaving.{Ends, Leaves}
 
 pub record Left (tokens rest : List Token) (next : ℕ) : Type 0 where

@@ -4,7 +4,7 @@ use Rattle.sb_base.specs.declared.tokens.Token.{Token}
 use Rattle.sb_parse.specs.Parser.{Parser, done}
 use Rattle.sb_parse.specs.Read.{IsLongest}
 use Rattle.sb_expr.specs.Expression.{Level}
-use Rattle.sb_expr.specs.Lexicon.{Lexicon}
+use Rattle.sb_lexicon.specs.Lexicon.{Lexicon}
 use Rattle.sb_expr.specs.Readers.{expr_reader, type_reader}
 use Rattle.sb_expr.proofs.Tying.{expr_longest, type_longest}
 

@@ -11,16 +11,18 @@ use Rattle.sb_tree.specs.declared.syntax.Expr.{Expr}
 use Rattle.sb_tree.specs.declared.syntax.TypeName.{TypeName}
 use Rattle.sb_tree.specs.Plain.{plain_expr, plain_type}
 use Rattle.sb_tree.specs.Trees.{ExprTree, depth_of_expr, depth_of_type}
-use Rattle.sb_expr.specs.Lexicon.{Lexicon}
+use Rattle.sb_lexicon.specs.Lexicon.{Lexicon}
 use Rattle.sb_expr.specs.Pieces.{Declared, type_of}
 use Rattle.sb_expr.specs.Expression.{Level, Sequence, IsExpr, IsType}
-use Rattle.sb_expr.specs.Readers.{too_deep, unexpected, floating, union, volatile, complex, begins_at, no_type, whole_parts, no_parts, parts, expr_reader, type_reader}
-use Rattle.sb_expr.specs.Reads.{FitsExpr, FitsType, IsRefusedThere, IsExprRead, IsTypeRead, IsLongestRead}
-use Rattle.sb_expr.proofs.More.{LawfulParts}
-use Rattle.sb_expr.proofs.Descending.{descent_from, descent_step, descent_bottom}
-use Rattle.sb_expr.proofs.Depths.{some_depth, some_type_depth}
-use Rattle.sb_expr.proofs.ExprLaws.{lawful_expr}
-use Rattle.sb_expr.proofs.TypeNames.{lawful_type}
+use Rattle.sb_expr.specs.Readers.{begins_at, no_type, whole_parts, no_parts, parts, expr_reader, type_reader}
+use Rattle.sb_lexicon.specs.Tokens.{too_deep, unexpected, floating, union, volatile, complex}
+use Rattle.sb_expr.specs.Reads.{FitsExpr, FitsType, IsExprRead, IsTypeRead}
+use Rattle.sb_lexicon.specs.Outcomes.{IsRefusedThere, IsLongestRead}
+use Rattle.sb_expr.proofs.tokens.More.{LawfulParts}
+use Rattle.sb_parse.proofs.Descending.{descent_from, descent_step, descent_bottom}
+use Rattle.sb_lexicon.proofs.Depths.{some_depth, some_type_depth}
+use Rattle.sb_expr.proofs.laws.Expressions.{lawful_expr}
+use Rattle.sb_expr.proofs.laws.TypeNames.{lawful_type}
 
 -- ---- without room
 

@@ -6,16 +6,15 @@ use Rattle.sb_base.specs.declared.tokens.Token.{Token}
 use Rattle.sb_tree.specs.declared.operator.BinaryOp.{BinaryOp}
 use Rattle.sb_tree.specs.declared.operator.BinaryOp.TheVariants as binary
 use Rattle.sb_tree.specs.declared.operator.UnaryOp.{UnaryOp}
-use Rattle.sb_tree.specs.declared.sign.Keyword.{Keyword}
-use Rattle.sb_tree.specs.declared.sign.Keyword.TheVariants as keyword
-use Rattle.sb_tree.specs.declared.sign.Mark.TheVariants as mark
+use Rattle.sb_sign.specs.declared.sign.Keyword.TheVariants as keyword
+use Rattle.sb_sign.specs.declared.sign.Mark.TheVariants as mark
 use Rattle.sb_tree.specs.Plain.{expr_list}
-use Rattle.sb_tree.specs.Signs as sign
 use Rattle.sb_tree.specs.Trees as tree
 use Rattle.sb_tree.specs.Trees.{ExprTree, OptionalExpr, TypeTree}
-use Rattle.sb_expr.specs.declared.operators.Suffix.TheVariants as suffix
-use Rattle.sb_expr.specs.Lexicon.{Lexicon, is_mark, is_keyword, name_of, is_type_name, operand_of, operator_of, prefix_of, step_of, assignment_of, suffix_of}
-use Rattle.sb_expr.specs.Words.{Said, Nothing, Whole, Specifiers, unspecified, saying, constantly, said_after, type_specified}
+use Rattle.sb_lexicon.specs.declared.operators.Suffix.TheVariants as suffix
+use Rattle.sb_lexicon.specs.Lexicon.{Lexicon, is_mark, is_keyword, name_of, operand_of, operator_of, prefix_of, step_of, assignment_of, suffix_of}
+use Rattle.sb_lexicon.specs.Specifiers.{AreSpecifiers}
+use Rattle.sb_lexicon.specs.Words.{Specifiers, unspecified, type_specified}
 use Rattle.sb_expr.specs.Pieces.{Piece, Pointed, Arrayed, Grouped, constant_if, Declared, type_of}
 
 pub data Level : Type 0 where
@@ -27,22 +26,6 @@ pub data Level : Type 0 where
   Conditional : Level
   Assignment : Level
   Sequence : Level
-
--- ---- specifiers of a type name: words, qualifiers and one tag or typedef name
-
-pub data IsSpecifier (w : Lexicon) : Specifiers → List Token → Specifiers → Type 0 where
-  is_word : (s : Specifiers) (t : Token) (k : Keyword) (said : Said) → sign.keyword_of w.texts t ≡ Some k → said_after k t.place s.said ≡ Some said → IsSpecifier w s (t ∷ []) (saying said s)
-  is_constant : (s : Specifiers) (t : Token) → is_keyword w keyword.Const t ≡ true → IsSpecifier w s (t ∷ []) (constantly s)
-  is_restricted : (s : Specifiers) (t : Token) → is_keyword w keyword.Restrict t ≡ true → IsSpecifier w s (t ∷ []) s
-  is_structure : (s : Specifiers) (t n : Token) (tag : Name) → is_keyword w keyword.Struct t ≡ true → s.said ≡ Nothing → name_of w n ≡ Some tag
-      → IsSpecifier w s (t ∷ (n ∷ [])) (saying (Whole (tree.Struct (Some tag) tree.Undeclared n.place)) s)
-  is_enumeration : (s : Specifiers) (t n : Token) (tag : Name) → is_keyword w keyword.Enum t ≡ true → s.said ≡ Nothing → name_of w n ≡ Some tag
-      → IsSpecifier w s (t ∷ (n ∷ [])) (saying (Whole (tree.Enum (Some tag) tree.Unlisted n.place)) s)
-  is_defined : (s : Specifiers) (t : Token) → is_type_name w t ≡ true → s.said ≡ Nothing → IsSpecifier w s (t ∷ []) (saying (Whole (tree.Defined t.text t.place)) s)
-
-pub data AreSpecifiers (w : Lexicon) : Specifiers → List Token → Specifiers → Type 0 where
-  no_specifiers : (s : Specifiers) → AreSpecifiers w s [] s
-  more_specifiers : (s s' s'' : Specifiers) (xs ys : List Token) → IsSpecifier w s xs s' → AreSpecifiers w s' ys s'' → AreSpecifiers w s (xs ++ ys) s''
 
 -- the qualifiers behind a `*`, and whether `const` is among them
 pub data AreQualifiers (w : Lexicon) : Bool → List Token → Bool → Type 0 where

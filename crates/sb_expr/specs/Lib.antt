@@ -1,11 +1,7 @@
-pub mod Lexicon
-pub mod Words
 pub mod Pieces
 pub mod Expression
-pub mod Descent
 pub mod Readers
 pub mod Meaning
 pub mod Parts
 pub mod Reads
-pub mod Reasons
 pub mod Calls

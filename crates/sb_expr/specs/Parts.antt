@@ -1,41 +1,14 @@
 -- The parts of the longer readers that are functions of their own in code.
-use Rattle.std.specs.Prelude.{ℕ, Bool, true, ◌&&◌, [], Option, Some, None}
+use Rattle.std.specs.Prelude.{ℕ, Bool, true, []}
 use Rattle.sb_base.specs.declared.refusals.Place.{Place}
 use Rattle.sb_base.specs.declared.tokens.Token.{Token}
 use Rattle.sb_parse.specs.Parser.{Parser, ◌>>=◌, pure, refuse, token, taken, choose, guard}
-use Rattle.sb_tree.specs.declared.sign.Keyword.TheVariants as keyword
+use Rattle.sb_sign.specs.declared.sign.Keyword.TheVariants as keyword
 use Rattle.sb_tree.specs.Trees as tree
-use Rattle.sb_tree.specs.Trees.{ExprTree, OptionalExpr, TypeTree}
-use Rattle.sb_expr.specs.Lexicon.{Lexicon, is_keyword, is_type_name}
-use Rattle.sb_expr.specs.Readers.{unexpected, too_deep, floating, union, volatile, complex, is_floating, is_union, is_complex, word_after, structure_named, enumeration_named, SpecifierReader, ExprReader, PieceReader, is_open, is_close_bracket, is_zero, member_of, in_parentheses, begins_expr}
-use Rattle.sb_expr.specs.Words.{Said, Specifiers, is_nothing, constantly}
-
--- ---- specifiers
-
-abbrev pub names_type : Lexicon → Said → Token → Bool
-names_type w said t = is_nothing said && is_type_name w t
-
-abbrev pub constant : Lexicon → Bool → Specifiers → SpecifierReader
-constant w bar s = guard bar too_deep (token unexpected (is_keyword w keyword.Const) >>= (λ t. pure (constantly s)))
-
-abbrev pub structure : Lexicon → Specifiers → SpecifierReader
-structure w s = token unexpected (is_keyword w keyword.Struct) >>= (λ t. taken unexpected (structure_named w s))
-
-abbrev pub enumeration : Lexicon → Specifiers → SpecifierReader
-enumeration w s = token unexpected (is_keyword w keyword.Enum) >>= (λ t. taken unexpected (enumeration_named w s))
-
--- a word of an arithmetic type, or one that is left out
-abbrev pub word_or_lacking : Lexicon → Specifiers → SpecifierReader
-word_or_lacking w s =
-    choose (is_floating w s.said) (refuse floating)
-    (choose (is_union w s.said) (refuse union)
-    (choose (is_keyword w keyword.Volatile) (refuse volatile)
-    (choose (is_complex w s.said) (refuse complex)
-    (taken unexpected (word_after w s)))))
-
-abbrev pub completed : Option TypeTree → Parser Token TypeTree
-completed None = refuse unexpected
-completed (Some t) = pure t
+use Rattle.sb_tree.specs.Trees.{ExprTree, OptionalExpr}
+use Rattle.sb_lexicon.specs.Lexicon.{Lexicon, is_keyword}
+use Rattle.sb_expr.specs.Readers.{ExprReader, PieceReader, in_parentheses}
+use Rattle.sb_lexicon.specs.Tokens.{unexpected, too_deep, volatile, is_open, is_close_bracket, is_zero, member_of, begins_expr}
 
 -- ---- declarators
 

@@ -1,135 +1,22 @@
--- The readers of expressions and type names, as functions on the tokens that are left. A stop has the number of its refusal: 31 for a token with which no text goes on,
--- 32 where only a deeper one does, and for a feature that the profile leaves out 100 and the feature's number.
-use Rattle.std.specs.Prelude.{ℕ, zero, suc, ◌-◌, ◌+◌, Bool, true, false, ◌&&◌, ◌||◌, List, [], ◌∷◌, ◌++◌, length, nat_lt, Option, Some, None, is_some, if◌then◌else◌}
-use Rattle.std.specs.Option.{option_map_or}
-use Rattle.sb_base.specs.declared.interning.Name.{Name}
+-- The readers of expressions and type names, as functions on the tokens that are left.
+use Rattle.std.specs.Prelude.{ℕ, zero, suc, ◌-◌, ◌+◌, Bool, true, false, ◌&&◌, ◌||◌, List, [], ◌∷◌, ◌++◌, length, nat_lt, is_some, if◌then◌else◌}
 use Rattle.sb_base.specs.declared.refusals.Place.{Place}
 use Rattle.sb_base.specs.declared.tokens.Token.{Token}
 use Rattle.sb_parse.specs.Parser.{Parser, ◌>>=◌, pure, refuse, token, taken, choose, guard, looped}
 use Rattle.sb_tree.specs.declared.operator.BinaryOp.TheVariants as binary
-use Rattle.sb_tree.specs.declared.sign.Keyword.{Keyword}
-use Rattle.sb_tree.specs.declared.sign.Keyword.TheVariants as keyword
-use Rattle.sb_tree.specs.declared.sign.Mark.TheVariants as mark
+use Rattle.sb_sign.specs.declared.sign.Keyword.TheVariants as keyword
 use Rattle.sb_tree.specs.Plain.{expr_list}
-use Rattle.sb_tree.specs.Signs as sign
 use Rattle.sb_tree.specs.Trees as tree
-use Rattle.sb_tree.specs.Trees.{ExprTree, OptionalExpr, TypeTree, depth_of_expr, depth_of_type}
-use Rattle.sb_expr.specs.declared.operators.Suffix.{Suffix}
-use Rattle.sb_expr.specs.declared.operators.Suffix.TheVariants as suffix
-use Rattle.sb_expr.specs.declared.words.Length.{Length}
-use Rattle.sb_expr.specs.declared.words.Length.TheVariants as lengths
-use Rattle.sb_expr.specs.Descent.{descent, choose_second}
+use Rattle.sb_tree.specs.Trees.{ExprTree, OptionalExpr, depth_of_expr, depth_of_type}
+use Rattle.sb_lexicon.specs.declared.operators.Suffix.{Suffix}
+use Rattle.sb_lexicon.specs.declared.operators.Suffix.TheVariants as suffix
+use Rattle.sb_parse.specs.Descent.{descent, choose_second}
 use Rattle.sb_expr.specs.Expression.{Level, Primary, Postfix, Prefix, Infix, Conditional, Assignment, Sequence}
-use Rattle.sb_expr.specs.Lexicon.{Lexicon, is_mark, is_keyword, name_of, is_type_name, is_type_word, begins_type, operand_of, operator_of, prefix_of, step_of, assignment_of, suffix_of}
+use Rattle.sb_lexicon.specs.Lexicon.{Lexicon, is_keyword, begins_type, operand_of, operator_of, prefix_of, step_of, assignment_of, suffix_of}
 use Rattle.sb_expr.specs.Pieces.{Piece, Pointed, Arrayed, Grouped, constant_if, points, Declared, type_of}
-use Rattle.sb_expr.specs.Words.{Said, Nothing, Words, Whole, Specifiers, unspecified, saying, constantly, is_nothing, is_no_sign, is_no_kind, said_after, type_specified}
-
--- ---- refusals
-
-abbrev pub unexpected : ℕ
-unexpected = 31
-
-abbrev pub too_deep : ℕ
-too_deep = 32
-
--- a feature that the profile leaves out
-abbrev pub lacks : ℕ → ℕ
-lacks feature = 100 + feature
-
-abbrev pub floating : ℕ
-floating = lacks 1
-
-abbrev pub union : ℕ
-union = lacks 2
-
-abbrev pub function_pointer : ℕ
-function_pointer = lacks 4
-
-abbrev pub volatile : ℕ
-volatile = lacks 7
-
-abbrev pub complex : ℕ
-complex = lacks 8
-
-abbrev pub compound_literal : ℕ
-compound_literal = lacks 16
-
--- other arguments than an annotation takes
-abbrev pub bad_arguments : ℕ
-bad_arguments = 35
-
--- an argument that began so many tokens before is of another kind
-abbrev pub bad_kind : ℕ → ℕ
-bad_kind count = 1000 + count
-
--- a word that is no annotation, where it stands and one token behind it
-abbrev pub unknown : ℕ
-unknown = 36
-
-abbrev pub unknown_before : ℕ
-unknown_before = 2001
-
--- an annotation that may not stand there, where it stands and so many tokens behind it
-abbrev pub misplaced : ℕ
-misplaced = 37
-
-abbrev pub misplaced_before : ℕ → ℕ
-misplaced_before count = 3000 + count
-
--- a comma behind which a parameter too many begins
-abbrev pub too_many_parameters : ℕ
-too_many_parameters = 2000
-
-abbrev pub is_zero : ℕ → Bool
-is_zero zero = true
-is_zero (suc n) = false
-
--- ---- tests of one token
-
-abbrev pub is_open : Lexicon → Token → Bool
-is_open w = is_mark w mark.OpenParenthesis
-
-abbrev pub is_close : Lexicon → Token → Bool
-is_close w = is_mark w mark.CloseParenthesis
-
-abbrev pub is_open_bracket : Lexicon → Token → Bool
-is_open_bracket w = is_mark w mark.OpenBracket
-
-abbrev pub is_close_bracket : Lexicon → Token → Bool
-is_close_bracket w = is_mark w mark.CloseBracket
-
-abbrev pub is_comma : Lexicon → Token → Bool
-is_comma w = is_mark w mark.Comma
-
-abbrev pub is_question : Lexicon → Token → Bool
-is_question w = is_mark w mark.Question
-
-abbrev pub is_colon : Lexicon → Token → Bool
-is_colon w = is_mark w mark.Colon
-
-abbrev pub is_star : Lexicon → Token → Bool
-is_star w = is_mark w mark.Star
-
-abbrev pub is_open_brace : Lexicon → Token → Bool
-is_open_brace w = is_mark w mark.OpenBrace
-
-abbrev pub is_size_of : Lexicon → Token → Bool
-is_size_of w = is_keyword w keyword.SizeOf
-
-abbrev pub is_prefix : Lexicon → Token → Bool
-is_prefix w t = is_some (prefix_of w t)
-
-abbrev pub is_step : Lexicon → Token → Bool
-is_step w t = is_some (step_of w t)
-
-abbrev pub is_suffix : Lexicon → Token → Bool
-is_suffix w t = is_some (suffix_of w t)
-
-abbrev pub is_operator : Lexicon → ℕ → Token → Bool
-is_operator w k t = is_some (operator_of w k t)
-
-abbrev pub begins_expr : Lexicon → Token → Bool
-begins_expr w t = is_some (operand_of w t) || (is_open w t || (is_prefix w t || (is_step w t || is_size_of w t)))
+use Rattle.sb_lexicon.specs.Words.{Nothing}
+use Rattle.sb_lexicon.specs.SpecifierReaders.{is_floating, is_complex, is_union, base_type}
+use Rattle.sb_lexicon.specs.Tokens.{unexpected, too_deep, floating, union, function_pointer, volatile, complex, compound_literal, is_zero, is_open, is_close, is_open_bracket, is_close_bracket, is_comma, is_question, is_colon, is_star, is_open_brace, is_size_of, is_prefix, is_step, is_suffix, is_operator, begins_expr, member_of, is_qualifier}
 
 -- a tree of a unary expression (6.5.3): what may stand on the left of an assignment
 abbrev pub is_unary : ExprTree → Bool
@@ -143,85 +30,6 @@ is_unary _ = true
 abbrev pub assigns : Lexicon → ExprTree → Token → Bool
 assigns w e t = is_unary e && is_some (assignment_of w t)
 
-abbrev pub member_of : Lexicon → Token → Option (Name × Place)
-member_of w t = option_map_or (λ n. Some (n, t.place)) (name_of w t) None
-
--- ---- specifiers
-
-abbrev pub is_only_long : Length → Bool
-is_only_long lengths.Long = true
-is_only_long _ = false
-
--- `double` and `_Complex` may follow
-abbrev pub may_be_floating : Said → Bool
-may_be_floating Nothing = true
-may_be_floating (Words v place) = is_no_sign v.sign && (is_only_long v.length && is_no_kind v.kind)
-may_be_floating (Whole t) = false
-
-abbrev pub is_floating : Lexicon → Said → Token → Bool
-is_floating w said t = (is_keyword w keyword.Float t && is_nothing said) || (is_keyword w keyword.Double t && may_be_floating said)
-
-abbrev pub is_complex : Lexicon → Said → Token → Bool
-is_complex w said t = (is_keyword w keyword.Complex t || is_keyword w keyword.Imaginary t) && may_be_floating said
-
-abbrev pub is_union : Lexicon → Said → Token → Bool
-is_union w said t = is_keyword w keyword.Union t && is_nothing said
-
-abbrev pub word_by : Place → Specifiers → Option Keyword → Option Specifiers
-word_by place s None = None
-word_by place s (Some k) = option_map_or (λ said. Some (saying said s)) (said_after k place s.said) None
-
--- the specifiers with one more word of an arithmetic type
-abbrev pub word_after : Lexicon → Specifiers → Token → Option Specifiers
-word_after w s t = word_by t.place s (sign.keyword_of w.texts t)
-
-abbrev pub structure_named : Lexicon → Specifiers → Token → Option Specifiers
-structure_named w s n = option_map_or (λ tag. Some (saying (Whole (tree.Struct (Some tag) tree.Undeclared n.place)) s)) (name_of w n) None
-
-abbrev pub enumeration_named : Lexicon → Specifiers → Token → Option Specifiers
-enumeration_named w s n = option_map_or (λ tag. Some (saying (Whole (tree.Enum (Some tag) tree.Unlisted n.place)) s)) (name_of w n) None
-
-abbrev pub defined_by : Specifiers → Token → Specifiers
-defined_by s t = saying (Whole (tree.Defined t.text t.place)) s
-
-abbrev pub is_tag_word : Lexicon → Said → Keyword → Token → Bool
-is_tag_word w said k t = is_keyword w k t && is_nothing said
-
-abbrev pub SpecifierReader : Type 0
-SpecifierReader = Parser Token Specifiers
-
--- `bar`: there is no room for a type inside another
-module _ (w : Lexicon) (bar : Bool) where
-  -- one specifier that begins with a keyword
-  unfoldable pub specified : Specifiers → SpecifierReader
-  specified s =
-      choose (is_keyword w keyword.Const) (guard bar too_deep (token unexpected (is_keyword w keyword.Const) >>= (λ t. pure (constantly s))))
-      (choose (is_keyword w keyword.Restrict) (token unexpected (is_keyword w keyword.Restrict) >>= (λ t. pure s))
-      (choose (is_tag_word w s.said keyword.Struct) (token unexpected (is_keyword w keyword.Struct) >>= (λ t. taken unexpected (structure_named w s)))
-      (choose (is_tag_word w s.said keyword.Enum) (token unexpected (is_keyword w keyword.Enum) >>= (λ t. taken unexpected (enumeration_named w s)))
-      (choose (is_floating w s.said) (refuse floating)
-      (choose (is_union w s.said) (refuse union)
-      (choose (is_keyword w keyword.Volatile) (refuse volatile)
-      (choose (is_complex w s.said) (refuse complex)
-      (taken unexpected (word_after w s)))))))))
-
-  unfoldable pub keyword_specifiers : Specifiers → SpecifierReader
-  keyword_specifiers s = looped (is_type_word w) specified s
-
-  abbrev pub names_type : Specifiers → Token → Bool
-  names_type s t = is_nothing s.said && is_type_name w t
-
-  -- a typedef name where no type is named so far
-  unfoldable pub defined : Specifiers → SpecifierReader
-  defined s = choose (names_type s) (token unexpected (is_type_name w) >>= (λ t. keyword_specifiers (defined_by s t))) (pure s)
-
-  abbrev pub completed : Option TypeTree → Parser Token TypeTree
-  completed None = refuse unexpected
-  completed (Some t) = pure t
-
-  unfoldable pub base_type : Parser Token TypeTree
-  base_type = keyword_specifiers unspecified >>= defined >>= (λ s. completed (type_specified s))
-
 -- ---- declarators without a name
 
 abbrev pub PieceReader : Type 0
@@ -229,9 +37,6 @@ PieceReader = Parser Token (List Piece)
 
 abbrev pub begins_abstract : Lexicon → Token → Bool
 begins_abstract w t = is_star w t || (is_open w t || is_open_bracket w t)
-
-abbrev pub is_qualifier : Lexicon → Token → Bool
-is_qualifier w t = is_keyword w keyword.Const t || (is_keyword w keyword.Restrict t || is_keyword w keyword.Volatile t)
 
 -- with this token only a function type goes on behind a parenthesis that has no declarator
 abbrev pub begins_parameters : Lexicon → Token → Bool

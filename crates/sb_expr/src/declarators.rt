@@ -1,20 +1,23 @@
 //! Declarators without a name (C99 6.7.6).
 ghost use Rattle.std.specs.Prelude.{◌≡◌, ◌≤◌, ◌<◌, ◌+◌, ◌-◌, [], ◌∷◌, true, false, length, max, IfOk};
 ghost use Rattle.sb_parse.specs.Parser.{at_next, looped};
-ghost use Rattle.sb_expr.specs.Meaning.{meant, boxed_expr, declared, piecewise, plain_piece, plain_pieces, depth_of_piece, IsDeep, IsSized, Gives, ReadsPieces, ReadsSize};
+ghost use Rattle.sb_expr.specs.Meaning.{declared, piecewise, plain_piece, plain_pieces, depth_of_piece, IsDeep, IsSized, ReadsPieces, ReadsSize};
+ghost use Rattle.sb_lexicon.specs.Meaning.{meant, Gives};
 ghost use Rattle.sb_expr.specs.Expression as level;
 ghost use Rattle.sb_expr.specs.Parts.{enclosed, qualifier, sized};
 ghost use Rattle.sb_expr.specs.Pieces as pieces;
 ghost use Rattle.sb_expr.specs.Readers as spec;
+ghost use Rattle.sb_lexicon.specs.Tokens as lexeme;
 
 use crate::expressions::{Level, within};
-use crate::lexicon::{
-    Lexicon, begins_type, is_keyword, is_keyword_next, is_mark, is_mark_next, is_qualifier_next,
-};
 use crate::pieces::Piece;
-use crate::reading::{Feature, Read, ReadFault, take_keyword, take_mark};
 use sb_base::{Place, Token};
-use sb_tree::{Expr, Keyword, Mark};
+use sb_lexicon::{
+    Feature, Lexicon, Read, ReadFault, begins_type, is_keyword, is_keyword_next, is_mark,
+    is_mark_next, is_qualifier_next, take_keyword, take_mark,
+};
+use sb_sign::{Keyword, Mark};
+use sb_tree::Expr;
 use std::alloc::{AllocError, Global};
 
 /// The pieces of a declarator, how deep they make a type of no depth, and the tokens after them.
@@ -135,7 +138,7 @@ pub fn qualifiers<'a>(
     room: u32,
     tokens: &'a [Token],
 ) -> Result<Read<'a, bool>, ReadFault>
-    ensures read { Gives (looped (spec.is_qualifier (meant lexicon.now)) (qualifier (meant lexicon.now) room) false tokens.now) result }
+    ensures read { Gives (looped (lexeme.is_qualifier (meant lexicon.now)) (qualifier (meant lexicon.now) room) false tokens.now) result }
     ensures room { IfOk result (λ r. r.value ≡ true → 0 < room) }
 {
     let mut found = Read {
@@ -318,7 +321,7 @@ fn arrays<'a>(
     requires room { room ≤ below }
     requires known { IsDeep first }
     requires bounds { IsSized below (room + 1) first }
-    ensures read { ReadsPieces (looped (spec.is_open_bracket (meant lexicon.now)) (piecewise spec.arrayed (meant lexicon.now) below room) (plain_pieces first.entry.list.items) first.entry.rest.now) result }
+    ensures read { ReadsPieces (looped (lexeme.is_open_bracket (meant lexicon.now)) (piecewise spec.arrayed (meant lexicon.now) below room) (plain_pieces first.entry.list.items) first.entry.rest.now) result }
     ensures bounds { IfOk result (λ p. IsSized below (room + 1) p) }
 {
     let most = first.rest.len();

@@ -1,23 +1,28 @@
 //! Expressions, from casts with operators between them up to commas (C99 6.5.5 to 6.5.17).
 ghost use Rattle.std.specs.Prelude.{◌≡◌, suc, ◌≤◌, ◌<◌, ◌+◌, IfOk};
 ghost use Rattle.sb_parse.specs.Parser.{looped};
-ghost use Rattle.sb_expr.specs.Meaning.{meant, nested, plain_found, plain_level, rank_of, IsFault, IsKnown, Reads};
+ghost use Rattle.sb_expr.specs.Meaning.{nested, plain_found, plain_level, rank_of, IsKnown, Reads};
+ghost use Rattle.sb_lexicon.specs.Meaning.{meant, IsFault};
 ghost use Rattle.sb_expr.specs.Parts.{no_expr};
 ghost use Rattle.sb_expr.specs.Readers as spec;
+ghost use Rattle.sb_lexicon.specs.Tokens as lexeme;
 ghost use Rattle.sb_tree.specs.Plain.{plain_expr};
 
-use crate::lexicon::{Lexicon, is_mark_next};
+use crate::found::Found;
 use crate::operands::is_expr_next;
-use crate::operators::{is_assignment_next, is_operator_next, take_assignment, take_operator};
 use crate::prefix::{cast_expr, prefix_expr};
-use crate::reading::{Found, ReadFault, take_mark};
 use crate::trees::{assign, binary, cond};
 use sb_base::Token;
-use sb_tree::{BinaryOp, Expr, Mark};
+use sb_lexicon::{
+    Lexicon, ReadFault, is_assignment_next, is_mark_next, is_operator_next, take_assignment,
+    take_mark, take_operator,
+};
+use sb_sign::Mark;
+use sb_tree::{BinaryOp, Expr};
 use std::alloc::Global;
 
 /// Which expressions may stand somewhere.
-#[derive(Clone, Copy, Debug, PartialEq, Eq)]
+#[derive(Clone, Copy)]
 pub enum Level {
     Prefix,
     /// Operators of this rank and of tighter ones; at 0 a cast.
@@ -104,7 +109,7 @@ fn operators<'a>(
     requires known { IsKnown first }
     requires low { first.depth ≤ below + 1 }
     requires rank { tighter < 10 }
-    ensures read { Reads (looped (spec.is_operator (meant lexicon.now) (suc tighter)) (nested spec.operated (meant lexicon.now) below tighter) (plain_found first.entry) first.entry.rest.now) result }
+    ensures read { Reads (looped (lexeme.is_operator (meant lexicon.now) (suc tighter)) (nested spec.operated (meant lexicon.now) below tighter) (plain_found first.entry) first.entry.rest.now) result }
     ensures depth { IfOk result (λ f. f.depth ≤ below + 1) }
 {
     let most = first.rest.len();
@@ -287,7 +292,7 @@ fn commas<'a>(
     requires shallow { below < 200 }
     requires known { IsKnown first }
     requires low { first.depth ≤ below + 1 }
-    ensures read { Reads (looped (spec.is_comma (meant lexicon.now)) (nested spec.followed (meant lexicon.now) below) (plain_found first.entry) first.entry.rest.now) result }
+    ensures read { Reads (looped (lexeme.is_comma (meant lexicon.now)) (nested spec.followed (meant lexicon.now) below) (plain_found first.entry) first.entry.rest.now) result }
     ensures depth { IfOk result (λ f. f.depth ≤ below + 1) }
 {
     let most = first.rest.len();

@@ -2,17 +2,20 @@
 ghost use Rattle.std.specs.Prelude.{◌≡◌, is_some, IfOk, IfSome};
 ghost use Rattle.std.specs.Option.{option_map};
 ghost use Rattle.sb_parse.specs.Parser.{at_next, taken};
-ghost use Rattle.sb_expr.specs.Lexicon as spec;
-ghost use Rattle.sb_expr.specs.Meaning.{meant, Reads};
-ghost use Rattle.sb_expr.specs.Readers as reader;
+ghost use Rattle.sb_lexicon.specs.Lexicon as spec;
+ghost use Rattle.sb_expr.specs.Meaning.{Reads};
+ghost use Rattle.sb_lexicon.specs.Meaning.{meant};
+ghost use Rattle.sb_lexicon.specs.Tokens as reader;
 ghost use Rattle.sb_tree.specs.Plain.{plain_expr};
 ghost use Rattle.sb_tree.specs.Trees.{depth_of_expr};
 
-use crate::lexicon::{Lexicon, is_keyword, is_mark, name_of, names_type};
-use crate::operators::{is_prefix, is_step};
-use crate::reading::{Found, ReadFault};
+use crate::found::Found;
 use sb_base::Token;
-use sb_tree::{Expr, Keyword, Mark, is_number, is_text};
+use sb_lexicon::{
+    Lexicon, ReadFault, is_keyword, is_mark, is_prefix, is_step, name_of, names_type,
+};
+use sb_sign::{Keyword, Mark, is_number, is_text};
+use sb_tree::Expr;
 use std::alloc::Global;
 
 /// Whether a token is the word for a function's result, which is an operand in an annotation.

@@ -1,20 +1,23 @@
 //! Operands and what stands behind them (C99 6.5.1, 6.5.2).
-ghost use Rattle.std.specs.Prelude.{◌≡◌, ◌≤◌, ◌<◌, ◌+◌, [], ◌∷◌, IfOk};
+ghost use Rattle.std.specs.Prelude.{◌≤◌, ◌<◌, ◌+◌, IfOk};
 ghost use Rattle.sb_parse.specs.Parser.{looped};
-ghost use Rattle.sb_expr.specs.Lexicon as lex;
-ghost use Rattle.sb_expr.specs.Meaning.{meant, nested, plain_found, IsKnown, IsListKnown, Reads, ReadsList};
+ghost use Rattle.sb_expr.specs.Meaning.{nested, plain_found, IsKnown, IsListKnown, Reads, ReadsList};
+ghost use Rattle.sb_lexicon.specs.Meaning.{meant};
 ghost use Rattle.sb_expr.specs.Parts.{member as named};
 ghost use Rattle.sb_expr.specs.Readers as spec;
-ghost use Rattle.sb_tree.specs.Plain.{plain_expr, plain_exprs};
+ghost use Rattle.sb_lexicon.specs.Tokens as lexeme;
+ghost use Rattle.sb_tree.specs.Plain.{plain_exprs};
 
 use crate::expressions::{Level, within};
-use crate::lexicon::{Lexicon, is_mark_next};
+use crate::found::Found;
 use crate::operands::take_operand;
-use crate::operators::{Suffix, is_suffix_next, take_suffix};
-use crate::reading::{Found, ReadFault, take_mark, take_member};
 use crate::trees::{call, index, member, paren, unary};
 use sb_base::{Place, Token};
-use sb_tree::{Expr, Mark};
+use sb_lexicon::{
+    Lexicon, ReadFault, Suffix, is_mark_next, is_suffix_next, take_mark, take_member, take_suffix,
+};
+use sb_sign::Mark;
+use sb_tree::Expr;
 use std::alloc::Global;
 
 /// The arguments of a call, how deep the deepest is, and the tokens after them.
@@ -105,7 +108,7 @@ fn more_arguments<'a>(
     requires shallow { below < 200 }
     requires known { IsListKnown first }
     requires low { first.depth ≤ below }
-    ensures read { ReadsList (looped (spec.is_comma (meant lexicon.now)) (nested spec.next_argument (meant lexicon.now) below) (plain_exprs first.entry.list.items) first.entry.rest.now) result }
+    ensures read { ReadsList (looped (lexeme.is_comma (meant lexicon.now)) (nested spec.next_argument (meant lexicon.now) below) (plain_exprs first.entry.list.items) first.entry.rest.now) result }
     ensures depth { IfOk result (λ a. a.depth ≤ below) }
 {
     let most = first.rest.len();
@@ -298,7 +301,7 @@ fn suffixes<'a>(
     requires shallow { below < 200 }
     requires known { IsKnown first }
     requires low { first.depth ≤ below + 1 }
-    ensures read { Reads (looped (spec.is_suffix (meant lexicon.now)) (nested spec.suffixed (meant lexicon.now) below) (plain_found first.entry) first.entry.rest.now) result }
+    ensures read { Reads (looped (lexeme.is_suffix (meant lexicon.now)) (nested spec.suffixed (meant lexicon.now) below) (plain_found first.entry) first.entry.rest.now) result }
     ensures depth { IfOk result (λ f. f.depth ≤ below + 1) }
 {
     let most = first.rest.len();

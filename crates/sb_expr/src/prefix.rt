@@ -1,19 +1,22 @@
 //! Operators before an operand, `sizeof` and casts (C99 6.5.3, 6.5.4).
-ghost use Rattle.std.specs.Prelude.{◌≡◌, ◌≤◌, ◌<◌, ◌+◌, IfOk};
-ghost use Rattle.sb_expr.specs.Meaning.{meant, nested, IsFault, Reads};
+ghost use Rattle.std.specs.Prelude.{◌≤◌, ◌<◌, ◌+◌, IfOk};
+ghost use Rattle.sb_expr.specs.Meaning.{nested, Reads};
+ghost use Rattle.sb_lexicon.specs.Meaning.{meant, IsFault};
 ghost use Rattle.sb_expr.specs.Parts.{no_room_inside};
 ghost use Rattle.sb_expr.specs.Readers as spec;
 
 use crate::expressions::{Level, no_room, within};
-use crate::lexicon::{Lexicon, is_keyword_next, is_mark_next, is_type_second};
-use crate::operators::{is_prefix_next, is_step_next, take_prefix, take_step};
+use crate::found::Found;
 use crate::pieces::typed;
 use crate::postfix::postfix;
-use crate::reading::{Feature, Found, ReadFault, take_keyword, take_mark};
 use crate::trees::{cast, size_of_expr, size_of_type, unary};
 use crate::type_names::type_within;
 use sb_base::{Place, Token};
-use sb_tree::{Keyword, Mark};
+use sb_lexicon::{
+    Feature, Lexicon, ReadFault, is_keyword_next, is_mark_next, is_prefix_next, is_step_next,
+    is_type_second, take_keyword, take_mark, take_prefix, take_step,
+};
+use sb_sign::{Keyword, Mark};
 use std::alloc::Global;
 
 #[cycle(expression)]

@@ -1,4 +1,4 @@
-//! Nodes of parts that already are on the heap.
+//! Nodes of parts that already are on the heap, each put there too.
 ghost use Rattle.std.specs.Prelude.{◌≡◌, IfOk};
 ghost use Rattle.sb_tree.specs.Plain.{plain_expr, plain_exprs, plain_type, expr_list};
 ghost use Rattle.sb_tree.specs.Trees as tree;
@@ -8,14 +8,12 @@ use sb_tree::{BinaryOp, Expr, TypeName, UnaryOp};
 use std::alloc::{AllocError, Global};
 
 /// An expression in parentheses.
-#[tactic(auto, unfolding(sb_tree::specs::Plain::plain_expr))]
 pub(crate) fn paren(alloc: Global, of: Box<Expr>, place: Place) -> Result<Box<Expr>, AllocError>
     ensures { IfOk result (λ e. plain_expr e.value ≡ tree.Paren (plain_expr of.value) place) }
 {
-    Ok(Box::new(alloc, Expr::Paren { of, place })?)
+    Ok(Box::new(alloc, Expr::paren(of, place))?)
 }
 
-#[tactic(auto, unfolding(sb_tree::specs::Plain::plain_expr))]
 pub(crate) fn index(
     alloc: Global,
     base: Box<Expr>,
@@ -24,10 +22,9 @@ pub(crate) fn index(
 ) -> Result<Box<Expr>, AllocError>
     ensures { IfOk result (λ e. plain_expr e.value ≡ tree.Index (plain_expr base.value) (plain_expr at.value) place) }
 {
-    Ok(Box::new(alloc, Expr::Index { base, at, place })?)
+    Ok(Box::new(alloc, Expr::index(base, at, place))?)
 }
 
-#[tactic(auto, unfolding(sb_tree::specs::Plain::plain_expr))]
 pub(crate) fn call(
     alloc: Global,
     callee: Box<Expr>,
@@ -36,16 +33,10 @@ pub(crate) fn call(
 ) -> Result<Box<Expr>, AllocError>
     ensures { IfOk result (λ e. plain_expr e.value ≡ tree.Call (plain_expr callee.value) (expr_list (plain_exprs args.items)) place) }
 {
-    let node = Expr::Call {
-        callee,
-        args,
-        place,
-    };
-    Ok(Box::new(alloc, node)?)
+    Ok(Box::new(alloc, Expr::call(callee, args, place))?)
 }
 
 /// A member, by `->` if `arrow`, else by `.`.
-#[tactic(auto, unfolding(sb_tree::specs::Plain::plain_expr))]
 pub(crate) fn member(
     alloc: Global,
     of: Box<Expr>,
@@ -55,18 +46,11 @@ pub(crate) fn member(
 ) -> Result<Box<Expr>, AllocError>
     ensures { IfOk result (λ e. plain_expr e.value ≡ tree.Member (plain_expr of.value) arrow name.0 name.1 place) }
 {
-    let node = Expr::Member {
-        of,
-        arrow,
-        name: name.0,
-        name_place: name.1,
-        place,
-    };
+    let node = Expr::member(of, arrow, name.0, name.1, place);
     Ok(Box::new(alloc, node)?)
 }
 
 /// An operator before or behind one operand.
-#[tactic(auto, unfolding(sb_tree::specs::Plain::plain_expr))]
 pub(crate) fn unary(
     alloc: Global,
     op: UnaryOp,
@@ -75,10 +59,9 @@ pub(crate) fn unary(
 ) -> Result<Box<Expr>, AllocError>
     ensures { IfOk result (λ e. plain_expr e.value ≡ tree.Unary op (plain_expr of.value) place) }
 {
-    Ok(Box::new(alloc, Expr::Unary { op, of, place })?)
+    Ok(Box::new(alloc, Expr::unary(op, of, place))?)
 }
 
-#[tactic(auto, unfolding(sb_tree::specs::Plain::plain_expr))]
 pub(crate) fn binary(
     alloc: Global,
     op: BinaryOp,
@@ -88,17 +71,10 @@ pub(crate) fn binary(
 ) -> Result<Box<Expr>, AllocError>
     ensures { IfOk result (λ e. plain_expr e.value ≡ tree.Binary op (plain_expr left.value) (plain_expr right.value) place) }
 {
-    let node = Expr::Binary {
-        op,
-        left,
-        right,
-        place,
-    };
-    Ok(Box::new(alloc, node)?)
+    Ok(Box::new(alloc, Expr::binary(op, left, right, place))?)
 }
 
 /// `=`, or an operator and `=`.
-#[tactic(auto, unfolding(sb_tree::specs::Plain::plain_expr))]
 pub(crate) fn assign(
     alloc: Global,
     op: Option<BinaryOp>,
@@ -108,17 +84,10 @@ pub(crate) fn assign(
 ) -> Result<Box<Expr>, AllocError>
     ensures { IfOk result (λ e. plain_expr e.value ≡ tree.Assign op (plain_expr to.value) (plain_expr value.value) place) }
 {
-    let node = Expr::Assign {
-        op,
-        to,
-        value,
-        place,
-    };
-    Ok(Box::new(alloc, node)?)
+    Ok(Box::new(alloc, Expr::assign(op, to, value, place))?)
 }
 
 /// `test ? yes : no`.
-#[tactic(auto, unfolding(sb_tree::specs::Plain::plain_expr))]
 pub(crate) fn cond(
     alloc: Global,
     test: Box<Expr>,
@@ -128,17 +97,10 @@ pub(crate) fn cond(
 ) -> Result<Box<Expr>, AllocError>
     ensures { IfOk result (λ e. plain_expr e.value ≡ tree.Cond (plain_expr test.value) (plain_expr yes.value) (plain_expr no.value) place) }
 {
-    let node = Expr::Cond {
-        test,
-        yes,
-        no,
-        place,
-    };
-    Ok(Box::new(alloc, node)?)
+    Ok(Box::new(alloc, Expr::cond(test, yes, no, place))?)
 }
 
 /// `(to) of`.
-#[tactic(auto, unfolding(sb_tree::specs::Plain::plain_expr, sb_tree::specs::Plain::plain_type))]
 pub(crate) fn cast(
     alloc: Global,
     to: Box<TypeName>,
@@ -147,7 +109,7 @@ pub(crate) fn cast(
 ) -> Result<Box<Expr>, AllocError>
     ensures { IfOk result (λ e. plain_expr e.value ≡ tree.Cast (plain_type to.value) (plain_expr of.value) place) }
 {
-    Ok(Box::new(alloc, Expr::Cast { to, of, place })?)
+    Ok(Box::new(alloc, Expr::cast(to, of, place))?)
 }
 
 /// `sizeof (named)`.
@@ -158,8 +120,7 @@ pub(crate) fn size_of_type(
 ) -> Result<Box<Expr>, AllocError>
     ensures { IfOk result (λ e. plain_expr e.value ≡ tree.SizeOfType (plain_type named.value) place) }
 {
-    let node = Expr::size_of_type(alloc, Box::into_inner(named), place)?;
-    Ok(Box::new(alloc, node)?)
+    Ok(Box::new(alloc, Expr::size_of_type(named, place))?)
 }
 
 /// `sizeof of`.
@@ -170,6 +131,5 @@ pub(crate) fn size_of_expr(
 ) -> Result<Box<Expr>, AllocError>
     ensures { IfOk result (λ e. plain_expr e.value ≡ tree.SizeOfExpr (plain_expr of.value) place) }
 {
-    let node = Expr::size_of_expr(alloc, Box::into_inner(of), place)?;
-    Ok(Box::new(alloc, node)?)
+    Ok(Box::new(alloc, Expr::size_of_expr(of, place))?)
 }

@@ -1,24 +1,28 @@
 //! Type names: specifiers and a declarator without a name (C99 6.7.6).
-ghost use Rattle.std.specs.Prelude.{◌≡◌, ◌≤◌, ◌<◌, ◌+◌, IfOk};
-ghost use Rattle.sb_expr.specs.Meaning.{meant, nested, IsFault, ReadsType};
+ghost use Rattle.std.specs.Prelude.{◌≤◌, ◌<◌, ◌+◌, IfOk};
+ghost use Rattle.sb_expr.specs.Meaning.{nested, ReadsType};
+ghost use Rattle.sb_lexicon.specs.Meaning.{meant, IsFault};
 ghost use Rattle.sb_expr.specs.Readers as spec;
 
+use crate::base_types::base_type;
 use crate::declarators::declarator;
-use crate::lexicon::{Lexicon, is_keyword_next, is_type_next};
 use crate::pieces::Piece;
-use crate::reading::{Feature, ReadFault};
-use crate::specifiers::{Said, base_type, is_complex_next, is_floating_next, is_union_next};
 use sb_base::Token;
-use sb_tree::{Keyword, TypeName};
+use sb_lexicon::{
+    Feature, Lexicon, ReadFault, Said, is_complex_next, is_floating_next, is_keyword_next,
+    is_type_next, is_union_next,
+};
+use sb_sign::Keyword;
+use sb_tree::TypeName;
 use std::alloc::Global;
 
 /// A type name: the type of its specifiers, what its declarator puts on it, how deep the whole is, and the tokens after it.
 #[derive(Drop)]
-pub(crate) struct NamedType<'a> {
-    pub(crate) base: Box<TypeName>,
-    pub(crate) pieces: Vec<Piece>,
-    pub(crate) depth: u32,
-    pub(crate) rest: &'a [Token],
+pub struct NamedType<'a> {
+    pub base: Box<TypeName>,
+    pub pieces: Vec<Piece>,
+    pub depth: u32,
+    pub rest: &'a [Token],
 }
 
 #[cycle(expression)]
@@ -69,7 +73,7 @@ fn no_room(lexicon: &Lexicon, tokens: &[Token]) -> ReadFault
 
 /// A type name at most `left` deep.
 #[cycle(expression)]
-pub(crate) fn type_within<'a>(
+pub fn type_within<'a>(
     alloc: Global,
     lexicon: &Lexicon,
     left: u32,

@@ -1,29 +1,27 @@
 -- The readers of annotations of each depth keep the laws; and what that comes to in the grammar's words.
-use Rattle.std.proofs.Common.{◌≡◌, ◌≤◌, ℕ, zero, suc, max, Bool, true, false, ◌||◌, ◌&&◌, not, List, [], ◌∷◌, ◌++◌, length, refl, sym, ap, ◌∙◌, subst, append_assoc, append-nil, inl, inr, arith}
+use Rattle.std.proofs.Common.{◌≡◌, ◌≤◌, ℕ, zero, suc, max, Bool, true, false, ◌||◌, ◌&&◌, not, List, [], ◌∷◌, ◌++◌, refl, sym, ap, ◌∙◌, subst, append_assoc, append-nil, arith}
 use Rattle.std.proofs.Math.Nat.{le-max_left, le-max_right, max-le}
 use Rattle.sb_base.specs.declared.tokens.Token.{Token}
 use Rattle.sb_parse.specs.Parser.{done, stop, pure, choose, refuse}
-use Rattle.sb_parse.specs.Lawful.{Part, Lawful, OnHead, Joined, IsEmpty, Mapped, Turns, over, turn}
+use Rattle.sb_parse.specs.Lawful.{Lawful, OnHead, Joined, IsEmpty, Mapped, Turns, over, turn}
 use Rattle.sb_parse.specs.Read.{IsLongest, IsRefused}
 use Rattle.sb_parse.proofs.Joining.{via, nothing}
 use Rattle.sb_parse.proofs.Heads.{head_map_of}
 use Rattle.sb_parse.proofs.Looping.{looping}
 use Rattle.sb_parse.proofs.Reading.{longest, refused}
-use Rattle.sb_tree.specs.declared.sign.Mark.TheVariants as mark
+use Rattle.sb_sign.specs.declared.sign.Mark.TheVariants as mark
 use Rattle.sb_tree.specs.Plain.{note_list}
 use Rattle.sb_tree.specs.Trees as tree
 use Rattle.sb_tree.specs.Trees.{NoteTree, depth_of_note, depth_of_notes}
-use Rattle.sb_expr.specs.Lexicon.{Lexicon}
-use Rattle.sb_expr.specs.Readers.{unexpected, too_deep, is_open, unknown, misplaced}
-use Rattle.sb_expr.specs.Reads.{IsRefusedThere}
-use Rattle.sb_expr.proofs.Ways.{Refuses, goes_on_where, one_refuses, both_refuse, turned_once_more}
-use Rattle.sb_sal.specs.Notes.{is_bare, AreNotes, no_notes, more_notes}
+use Rattle.sb_lexicon.specs.Lexicon.{Lexicon}
+use Rattle.sb_lexicon.specs.Tokens.{unexpected, too_deep, is_open, unknown, misplaced}
+use Rattle.sb_parse.proofs.Ways.{Refuses, goes_on_where, one_refuses, both_refuse, turned_once_more}
+use Rattle.sb_sal.specs.Notes.{AreNotes, no_notes, more_notes}
 use Rattle.sb_sal.specs.Readers.{note_reader, next_note, notes_reader}
-use Rattle.sb_sal.specs.Reads.{FitsNote, FitsNotes, HasBare, IsFillable}
+use Rattle.sb_sal.specs.Reads.{FitsNote, FitsNotes, IsFillable}
 use Rattle.sb_sal.specs.Spellings.{begins_note, is_listed, is_unlisted}
-use Rattle.sb_sal.proofs.Partly.{Partly, partly_via, with_text, with_heads, refusing}
-use Rattle.sb_sal.proofs.Tokens.{bare_takes_nothing, mark_no_note}
-use Rattle.sb_sal.proofs.Filled.{filled_by}
+use Rattle.sb_parse.proofs.Partly.{Partly, partly_via, with_heads, refusing}
+use Rattle.sb_sal.proofs.Tokens.{mark_no_note}
 use Rattle.sb_sal.proofs.Inside.{more_note, at_end, ends_with}
 use Rattle.sb_sal.proofs.Noting.{some_note, note_law, note_begins}
 
@@ -87,31 +85,6 @@ module _ (w : Lexicon) where
 
   pub note_at : (left : ℕ) (may : Token → Bool) → IsFillable w may → OnHead (begins_note w) (FitsNote w left may) (more_note w) (note_reader w left may)
   note_at left may F = with_heads (note_partly left may F) (begins_note w) (λ ts n f. note_begins w may ts n f.0)
-
-  -- where some annotation that fits may stand
-  pub lawful_note : (left : ℕ) (may : Token → Bool) → IsFillable w may → (xs : List Token) (v : NoteTree) → FitsNote w left may xs v → Lawful (FitsNote w left may) (more_note w) (note_reader w left may)
-  lawful_note left may F xs v fits = with_text (note_partly left may F) xs v fits
-
-  bare_fits : (left : ℕ) (may : Token → Bool) (b : HasBare w may) → 1 ≤ left → FitsNote w left may (b.token ∷ []) (tree.Note b.token.text tree.NoArgs b.token.place)
-  bare_fits left may b some = (is_bare may b.token b.may_stand (bare_takes_nothing w b.token b.alone), some)
-
-  pub lawful_with_bare : (left : ℕ) (may : Token → Bool) → 1 ≤ left → HasBare w may → Lawful (FitsNote w left may) (more_note w) (note_reader w left may)
-  lawful_with_bare left may some b = lawful_note left may (filled_by w may b) (b.token ∷ []) (tree.Note b.token.text tree.NoArgs b.token.place) (bare_fits left may b some)
-
-  pub note_longest : (left : ℕ) (may : Token → Bool) → IsFillable w may → (ts : List Token) (n : NoteTree) (rest : List Token) → note_reader w left may ts ≡ done n rest → IsLongest (FitsNote w left may) ts n rest
-  note_longest left may F ts n rest e =
-      let u : Part (FitsNote w left may) (more_note w) n ts rest = (note_partly left may F).sound ts n rest e in
-      longest (lawful_note left may F u.front n u.is) ts n rest e
-
-  stops_at_once : (may : Token → Bool) (ts : List Token) (n k : ℕ) → note_reader w 0 may ts ≡ stop n k → k ≡ length ts
-  stops_at_once may ts n k e =
-      let it = refuses_at_once may ts in
-      let halt : stop it.number (length ts) ≡ stop n k = sym (it.halts ts refl) ∙ e in
-      cc halt
-
-  pub note_refused : (left : ℕ) (may : Token → Bool) → HasBare w may → (ts : List Token) (n k : ℕ) → note_reader w left may ts ≡ stop n k → IsRefusedThere (FitsNote w left may) ts k
-  note_refused zero may b ts n k e = inr (record { left_is = stops_at_once may ts n k e; none = none_fits may })
-  note_refused (suc below) may b ts n k e = inl (refused (lawful_with_bare (suc below) may (omega arith) b) ts n k e)
 
   -- ---- annotations one after the other
 

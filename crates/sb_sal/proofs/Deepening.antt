@@ -4,10 +4,10 @@ use Rattle.std.proofs.Math.Nat.{le-max_left, le-max_right}
 use Rattle.sb_base.specs.declared.tokens.Token.{Token}
 use Rattle.sb_parse.specs.Parser.{Outcome, Parser, done, stop, at_next, and_then, ◌>>=◌, pure, refuse, token, taken_as, taken, choose, guard, loop, looped}
 use Rattle.sb_parse.specs.Lawful.{Part, Stuck, Lawful}
-use Rattle.sb_expr.specs.Descent.{at_second, choose_second}
-use Rattle.sb_expr.specs.Readers.{too_deep, is_zero}
-use Rattle.sb_expr.proofs.Depths.{room_within}
-use Rattle.sb_expr.proofs.Wider.{Held, short, same, Wider, alike}
+use Rattle.sb_parse.specs.Descent.{at_second, choose_second}
+use Rattle.sb_lexicon.specs.Tokens.{too_deep, is_zero}
+use Rattle.sb_lexicon.proofs.Depths.{room_within}
+use Rattle.sb_lexicon.proofs.Wider.{Held, short, same, Wider, alike}
 
 -- an outcome behind the first of the last `left` tokens
 pub data Past {A : Type 0} (left : ℕ) (o : Outcome Token A) : Type 0 where
@@ -24,7 +24,7 @@ pub record Shrinks {A : Type 0} (p : Parser Token A) : Type 0 where
   pub read : (ts : List Token) (a : A) (rest : List Token) → p ts ≡ done a rest → length rest ≤ length ts
   pub stopped : (ts : List Token) (n k : ℕ) → p ts ≡ stop n k → k ≤ length ts
 
--- at depth n: what stops for another reason than depth, or is done, stays so at every greater depth, and what stops for want of depth gets past that token at some greater depth
+-- at depth n: what stops for another reason than depth, or is done, stays so at every greater depth, what stops for want of depth gets past that token at some greater depth, and none leaves more than there was
 pub record Deepens {A : Type 0} (n : ℕ) (p : ℕ → Parser Token A) : Type 0 where
   pub wide : (m : ℕ) → n ≤ m → Wider (p n) (p m)
   pub shrinks : (m : ℕ) → n ≤ m → Shrinks (p m)

@@ -1,7 +1,7 @@
 -- The reader of annotations of a depth by that of the next lower one.
-use Rattle.std.proofs.Common.{◌≡◌, ℕ, zero, suc, ◌-◌, ◌<◌, Bool, List, refl, ap, arith}
+use Rattle.std.proofs.Common.{◌≡◌, ℕ, zero, suc, ◌-◌, ◌<◌, List, refl, ap, arith}
 use Rattle.sb_base.specs.declared.tokens.Token.{Token}
-use Rattle.sb_expr.specs.Lexicon.{Lexicon}
+use Rattle.sb_lexicon.specs.Lexicon.{Lexicon}
 use Rattle.sb_sal.specs.declared.bearer.Bearer.{Bearer}
 use Rattle.sb_sal.specs.Meaning.{noted}
 use Rattle.sb_sal.specs.Parts.{no_note}

@@ -2,13 +2,13 @@
 use Rattle.std.proofs.Common.{◌≡◌, ◌≤◌, ◌+◌, ℕ, suc, max, Bool, List, [], ◌∷◌, ◌++◌, length, refl, sym, ap, ◌∙◌, subst, arith, length-append}
 use Rattle.std.proofs.Math.Nat.{le-max_left, le-max_right}
 use Rattle.sb_base.specs.declared.tokens.Token.{Token}
-use Rattle.sb_parse.specs.Parser.{Outcome, Parser, stop}
+use Rattle.sb_parse.specs.Parser.{Outcome, Parser, done, stop}
 use Rattle.sb_parse.specs.Lawful.{Stuck, Lawful}
 use Rattle.sb_parse.specs.Read.{CanBegin}
 use Rattle.sb_parse.proofs.Reading.{none_goes_on}
-use Rattle.sb_expr.specs.Readers.{too_deep}
-use Rattle.sb_expr.specs.Reads.{GoesOn}
-use Rattle.sb_expr.proofs.Wider.{Held, short, same, Wider}
+use Rattle.sb_lexicon.specs.Tokens.{too_deep}
+use Rattle.sb_lexicon.specs.Outcomes.{GoesOn}
+use Rattle.sb_lexicon.proofs.Wider.{Held, short, same, Wider}
 
 -- ---- the place
 
@@ -18,7 +18,7 @@ longer u us ys vs e h =
     let all : length ys ≡ suc (length (us ++ vs)) = ap length e in
     omega arith
 
--- lists that end alike are alike in front
+-- two ways to split a list are one where the ends are of one length
 pub same_front : (xs us ys vs : List Token) → xs ++ ys ≡ us ++ vs → length ys ≡ length vs → (xs ≡ us) × (ys ≡ vs)
 same_front [] [] ys vs e h = (refl, e)
 same_front [] (u ∷ us) ys vs e h = absurd (longer u us ys vs e h)
@@ -51,3 +51,14 @@ module _ {A : Type 0} (Is : List Token → A → Type 0) (depth : A → ℕ) (mo
   at_every_depth left enough ts n k e not_deep front [] split left_is c = c
   at_every_depth left enough ts n k e not_deep front (t ∷ rest) split left_is c =
       none_at (max left (depth c.tree)) left enough (le-max_left left (depth c.tree)) ts n k e not_deep front t rest split left_is c (le-max_right left (depth c.tree))
+
+  -- where the tokens end, they are no text of any depth
+  pub at_end : (left : ℕ) → low ≤ left → (ts : List Token) (n k : ℕ) → reader left ts ≡ stop n k → (n ≡ too_deep → ⊥) → (front bad : List Token) → ts ≡ front ++ bad → bad ≡ [] → (a : A) → Is front a → ⊥
+  at_end left enough ts n k e not_deep front bad split none a is =
+      let most : ℕ = max left (depth a) in
+      let le : left ≤ most = le-max_left left (depth a) in
+      let some : low ≤ most = omega arith in
+      let halts : reader most ts ≡ stop n k = held n k (reader left ts) (reader most ts) (Wide left most enough le ts) e not_deep in
+      let reads : reader most (front ++ []) ≡ done a [] = (Law most some).complete front a [] (is, le-max_right left (depth a)) refl in
+      let both : Path (Outcome Token A) (stop n k) (done a []) = sym halts ∙ ap (reader most) (split ∙ ap (λ z. front ++ z) none) ∙ reads in
+      cc both

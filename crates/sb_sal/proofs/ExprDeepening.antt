@@ -7,24 +7,24 @@ use Rattle.sb_parse.specs.Parser.{Outcome, Parser, done, stop, peeked, at_next, 
 use Rattle.sb_parse.specs.Lawful.{Part, Stuck, Lawful}
 use Rattle.sb_parse.specs.Read.{CanBegin}
 use Rattle.sb_parse.proofs.Joining.{next_of_append, test_of_append}
-use Rattle.sb_tree.specs.Trees.{depth_of_expr, depth_of_type}
-use Rattle.sb_expr.specs.Descent.{descent}
-use Rattle.sb_expr.specs.Expression.{Level, IsExpr, IsType}
-use Rattle.sb_expr.specs.Lexicon.{Lexicon}
-use Rattle.sb_expr.specs.Pieces.{type_of}
-use Rattle.sb_expr.specs.Readers.{unexpected, too_deep, begins_at, expr_reader, type_reader}
-use Rattle.sb_expr.specs.Reasons.{IsReason, ends, no_text, deeper, feature, IsRefusedFor}
-use Rattle.sb_expr.proofs.Depths.{within_room}
-use Rattle.sb_expr.proofs.More.{more, more_type}
+use Rattle.sb_tree.specs.Trees.{depth_of_expr}
+use Rattle.sb_parse.specs.Descent.{descent}
+use Rattle.sb_expr.specs.Expression.{Level, IsExpr}
+use Rattle.sb_lexicon.specs.Lexicon.{Lexicon}
+use Rattle.sb_expr.specs.Readers.{begins_at, expr_reader}
+use Rattle.sb_lexicon.specs.Tokens.{unexpected, too_deep}
+use Rattle.sb_lexicon.specs.Reasons.{IsReason, ends, no_text, deeper, feature, IsRefusedFor}
+use Rattle.sb_lexicon.proofs.Depths.{within_room}
+use Rattle.sb_expr.proofs.tokens.More.{more}
 use Rattle.sb_expr.proofs.Tying.{lawful_parts}
-use Rattle.sb_expr.proofs.PartWider.{parts_wider}
-use Rattle.sb_expr.proofs.Reasoning.{expr_reason, type_reason}
-use Rattle.sb_expr.proofs.Wider.{Wider}
+use Rattle.sb_expr.proofs.widening.EachDepth.{parts_wider}
+use Rattle.sb_expr.proofs.telling.Reasons.{expr_reason}
+use Rattle.sb_lexicon.proofs.Wider.{Wider}
 use Rattle.sb_sal.proofs.Deepening.{Past, read_past, stopped_past, Shrinks, Deepens, shrinks_choose, shrinks_refuse, shrinks_by_law}
 
 -- ---- past a token with which a text goes on
 
--- of lists that are alike, the one whose end is longer has the shorter front
+-- of two ways to split a list the one with the longer end has the shorter front
 pub same_middle : (xs ys us vs : List Token) → xs ++ ys ≡ us ++ vs → length ys ≤ length vs → (mid : List Token) × (xs ≡ us ++ mid) × (vs ≡ mid ++ ys)
 same_middle xs ys [] vs e le = (xs, refl, sym e)
 same_middle [] ys (u ∷ us) vs e le =
@@ -116,21 +116,7 @@ module _ (w : Lexicon) where
   unfolding descent
   no_expr_shrinks level = shrinks_choose (begins_at w level) (refuse too_deep) (refuse unexpected) (shrinks_refuse too_deep) (shrinks_refuse unexpected)
 
-  no_type_shrinks : Shrinks (type_reader w 0)
-  unfolding descent
-  no_type_shrinks =
-      shrinks_choose _ _ _ (shrinks_refuse _)
-      (shrinks_choose _ _ _ (shrinks_refuse _)
-      (shrinks_choose _ _ _ (shrinks_refuse _)
-      (shrinks_choose _ _ _ (shrinks_refuse _)
-      (shrinks_choose _ _ _ (shrinks_refuse _) (shrinks_refuse _)))))
-
   pub expr_deepens : (level : Level) (n : ℕ) → Deepens n (λ m. expr_reader w m level)
   expr_deepens level n =
       deepens_by_reason w (IsExpr w level) depth_of_expr (more w level) (λ left. expr_reader w left level) (λ left some. (lawful_parts w left some).expr level) (λ n m le. (parts_wider w n m 0 le).0 level)
       (λ left ts n k e. expr_reason w left level ts n k e) (no_expr_shrinks level) n
-
-  pub type_deepens : (n : ℕ) → Deepens n (λ m. type_reader w m)
-  type_deepens n =
-      deepens_by_reason w (IsType w) (λ d. depth_of_type (type_of d)) (more_type w) (type_reader w) (λ left some. (lawful_parts w left some).type_name) (λ n m le. (parts_wider w n m 0 le).1)
-      (λ left ts n k e. type_reason w left ts n k e) no_type_shrinks n

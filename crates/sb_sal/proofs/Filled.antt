@@ -8,9 +8,9 @@ use Rattle.std.specs.Str.{bytes_eq}
 use Rattle.sb_base.specs.declared.interning.Name.{Name}
 use Rattle.sb_base.specs.declared.tokens.PpKind.TheVariants as kind
 use Rattle.sb_base.specs.declared.tokens.Token.{Token}
-use Rattle.sb_tree.specs.Signs.{first_some, spelling_of, own_words, name_by, keyword_in}
-use Rattle.sb_expr.specs.Lexicon.{Lexicon, is_among, name_of, is_type_name}
-use Rattle.sb_expr.specs.Reads.{nowhere}
+use Rattle.sb_sign.specs.Signs.{first_some, spelling_of, own_words, name_by, keyword_in}
+use Rattle.sb_lexicon.specs.Lexicon.{Lexicon, is_among, name_of, is_type_name}
+use Rattle.sb_lexicon.specs.Outcomes.{nowhere}
 use Rattle.sb_sal.specs.declared.bearer.Bearer.{Bearer}
 use Rattle.sb_sal.specs.declared.bearer.Bearer.TheVariants as bearer
 use Rattle.sb_sal.specs.declared.spelling.Arguments.{Arguments}

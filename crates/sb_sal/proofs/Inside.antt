@@ -8,19 +8,19 @@ use Rattle.sb_parse.proofs.Joining.{never_next, in_order, via, one_token, map_of
 use Rattle.sb_parse.proofs.Heads.{head_map_of}
 use Rattle.sb_tree.specs.Plain.{arg_list}
 use Rattle.sb_tree.specs.Trees as tree
-use Rattle.sb_tree.specs.Trees.{ExprTree, NoteTree, ArgTree, ExprArg, NoteArg, depth_of_expr, depth_of_note, depth_of_arg, depth_of_args}
-use Rattle.sb_expr.specs.Lexicon.{Lexicon}
-use Rattle.sb_expr.specs.Readers.{unexpected, is_open, is_close, is_comma, bad_arguments}
-use Rattle.sb_expr.proofs.More.{more}
-use Rattle.sb_expr.proofs.Ways.{only_else}
-use Rattle.sb_expr.proofs.Lexemes.{close_token, close_token_is}
+use Rattle.sb_tree.specs.Trees.{NoteTree, ArgTree, ExprArg, NoteArg, depth_of_arg, depth_of_args}
+use Rattle.sb_lexicon.specs.Lexicon.{Lexicon}
+use Rattle.sb_lexicon.specs.Tokens.{unexpected, is_open, is_close, is_comma, bad_arguments}
+use Rattle.sb_expr.proofs.tokens.More.{more}
+use Rattle.sb_parse.proofs.Ways.{only_else}
+use Rattle.sb_lexicon.proofs.Lexemes.{close_token, close_token_is}
 use Rattle.sb_sal.specs.declared.spelling.Arguments.{Arguments}
 use Rattle.sb_sal.specs.declared.spelling.Arguments.TheVariants as arguments
 use Rattle.sb_sal.specs.Notes.{anywhere, is_bare, AreArguments, one_size, two_sizes, a_condition, memory, a_note, guarded, located}
 use Rattle.sb_sal.specs.Readers.{wrong, separator, closing, one, two, inner, arguments_by, continues}
 use Rattle.sb_sal.specs.Reads.{FitsNote, HasBare}
 use Rattle.sb_sal.specs.Spellings.{begins_note, is_mem}
-use Rattle.sb_sal.proofs.Partly.{refused_before}
+use Rattle.sb_parse.proofs.Partly.{refused_before}
 use Rattle.sb_sal.proofs.Tokens.{bare_takes_nothing, close_not_comma, comma_not_close, close_not_open, close_ends_location, comma_ends_location, comma_token, comma_token_is}
 use Rattle.sb_sal.proofs.Values.{FitsValue, FitsLocation, wrong_refuses, value_law, value_ends_at_close, value_ends_at_comma, location_law, IsMemory, memory_law}
 

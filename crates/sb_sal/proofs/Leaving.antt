@@ -1,8 +1,7 @@
 -- What the reader of annotations leaves is the end of what it was given.
 use Rattle.std.proofs.Common.{ℕ}
-use Rattle.sb_base.specs.declared.tokens.Token.{Token}
 use Rattle.sb_parse.specs.Read.{IsLongest}
-use Rattle.sb_expr.specs.Lexicon.{Lexicon}
+use Rattle.sb_lexicon.specs.Lexicon.{Lexicon}
 use Rattle.sb_expr.proofs.Leaving.{Leaves}
 use Rattle.sb_sal.specs.declared.bearer.Bearer.{Bearer}
 use Rattle.sb_sal.specs.Readers.{notes_reader}

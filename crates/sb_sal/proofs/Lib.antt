@@ -1,15 +1,12 @@
 pub mod Narrower
-pub mod Partly
 pub mod Tokens
 pub mod Values
 pub mod Inside
 pub mod Noting
 pub mod Annotations
 pub mod Unique
-pub mod Explaining
 pub mod ArgumentReasons
 pub mod NoteReasons
-pub mod Numbers
 pub mod Filled
 pub mod Tying
 pub mod Words

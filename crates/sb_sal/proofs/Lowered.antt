@@ -1,10 +1,10 @@
 -- Families of parsers of lower and higher depths, and parsers that stop otherwise than for want of depth.
-use Rattle.std.proofs.Common.{◌≡◌, ◌≤◌, ◌+◌, ◌-◌, ℕ, zero, suc, Bool, false, List, Option, nat_lt, sym, ap, ◌∙◌, subst, arith}
+use Rattle.std.proofs.Common.{◌≡◌, ◌≤◌, ◌+◌, ◌-◌, ℕ, zero, suc, Bool, false, Option, nat_lt, sym, ap, ◌∙◌, subst, arith}
 use Rattle.sb_base.specs.declared.tokens.Token.{Token}
 use Rattle.sb_parse.specs.Parser.{Parser, token, taken, refuse}
-use Rattle.sb_expr.specs.Readers.{unexpected, too_deep, lacks, is_zero}
-use Rattle.sb_expr.proofs.Depths.{room_within, some_room}
-use Rattle.sb_expr.proofs.Wider.{Wider, zero_wider, room_wider}
+use Rattle.sb_lexicon.specs.Tokens.{unexpected, too_deep, unknown, misplaced, bad_arguments, lacks, is_zero}
+use Rattle.sb_lexicon.proofs.Depths.{room_within, some_room}
+use Rattle.sb_lexicon.proofs.Wider.{Wider, zero_wider, room_wider}
 use Rattle.sb_sal.proofs.Deepening.{Past, Shrinks, Deepens, moved, still_token, still_taken, still_refuse}
 
 -- ---- other families
@@ -64,6 +64,15 @@ room_open c d n = (n + c + d, omega arith, room_within (n + c + d - c) d (omega 
 
 pub not_unexpected : unexpected ≡ too_deep → ⊥
 not_unexpected h = let both : Path ℕ 31 32 = h in omega arith
+
+pub not_unknown : unknown ≡ too_deep → ⊥
+not_unknown h = let both : Path ℕ 36 32 = h in omega arith
+
+pub not_misplaced : misplaced ≡ too_deep → ⊥
+not_misplaced h = let both : Path ℕ 37 32 = h in omega arith
+
+pub not_bad_arguments : bad_arguments ≡ too_deep → ⊥
+not_bad_arguments h = let both : Path ℕ 35 32 = h in omega arith
 
 pub not_lacking : (k : ℕ) → lacks k ≡ too_deep → ⊥
 not_lacking k h = let both : 100 + k ≡ 32 = h in omega arith

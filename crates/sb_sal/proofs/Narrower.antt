@@ -5,8 +5,8 @@ use Rattle.sb_parse.specs.Parser.{Outcome, Parser, done, stop, at_next, and_then
 use Rattle.sb_tree.specs.Plain.{arg_list}
 use Rattle.sb_tree.specs.Trees as tree
 use Rattle.sb_tree.specs.Trees.{NoteTree, ArgTree, ExprArg, NoteArg}
-use Rattle.sb_expr.specs.Lexicon.{Lexicon}
-use Rattle.sb_expr.specs.Readers.{unexpected, too_deep, unknown, misplaced, is_zero, is_open}
+use Rattle.sb_lexicon.specs.Lexicon.{Lexicon}
+use Rattle.sb_lexicon.specs.Tokens.{unexpected, too_deep, unknown, misplaced, is_zero, is_open}
 use Rattle.sb_sal.specs.declared.spelling.Arguments.{Arguments}
 use Rattle.sb_sal.specs.declared.spelling.Arguments.TheVariants as arguments
 use Rattle.sb_sal.specs.Notes.{anywhere}

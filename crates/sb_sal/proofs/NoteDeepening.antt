@@ -9,10 +9,11 @@ use Rattle.sb_tree.specs.declared.operator.UnaryOp.TheVariants as unary
 use Rattle.sb_tree.specs.Trees as tree
 use Rattle.sb_tree.specs.Trees.{ExprTree, NoteTree, ArgTree, ExprArg, NoteArg}
 use Rattle.sb_expr.specs.Expression.{Assignment}
-use Rattle.sb_expr.specs.Lexicon.{Lexicon}
-use Rattle.sb_expr.specs.Readers.{unexpected, too_deep, unknown, misplaced, bad_arguments, bad_kind, is_zero, is_open, is_close, is_comma, is_star, begins_expr, expr_reader}
-use Rattle.sb_expr.proofs.Wider.{Wider, room_wider}
-use Rattle.sb_expr.proofs.Ways.{and_first, and_second}
+use Rattle.sb_lexicon.specs.Lexicon.{Lexicon}
+use Rattle.sb_expr.specs.Readers.{expr_reader}
+use Rattle.sb_lexicon.specs.Tokens.{unexpected, too_deep, unknown, misplaced, bad_arguments, bad_kind, is_zero, is_open, is_close, is_comma, is_star, begins_expr}
+use Rattle.sb_lexicon.proofs.Wider.{room_wider}
+use Rattle.sb_parse.proofs.Ways.{and_first, and_second}
 use Rattle.sb_sal.specs.declared.spelling.Arguments.{Arguments}
 use Rattle.sb_sal.specs.declared.spelling.Arguments.TheVariants as arguments
 use Rattle.sb_sal.specs.Notes.{inside, anywhere}
@@ -22,36 +23,25 @@ use Rattle.sb_sal.specs.Spellings.{begins_note, arguments_of, is_listed, is_unli
 use Rattle.sb_sal.proofs.Tokens.{has_arguments_of}
 use Rattle.sb_sal.proofs.NoteWider.{note_wider}
 use Rattle.sb_sal.proofs.ExprDeepening.{expr_deepens}
+use Rattle.sb_sal.proofs.Lowered.{raised, not_unexpected, not_unknown, not_misplaced, not_bad_arguments}
 use Rattle.sb_sal.proofs.Deepening.{Past, Shrinks, Deepens, most_at, shrinks_pure, shrinks_refuse, shrinks_taken, shrinks_then, shrinks_choose, enters, enters_taken}
 use Rattle.sb_sal.proofs.Deepening.{at_list, at_lists, deep_guard, still_pure, still_refuse, still_token, still_taken, in_order, choosing, turning, guarded, open_room}
 
 -- ---- numbers
 
-arguments_not_deep : bad_arguments ≡ too_deep → ⊥
-arguments_not_deep h = let both : Path ℕ 35 32 = h in omega arith
-
 kind_not_deep : (n : ℕ) → bad_kind n ≡ too_deep → ⊥
 kind_not_deep n h = let both : 1000 + n ≡ 32 = h in omega arith
-
-unexpected_not_deep : unexpected ≡ too_deep → ⊥
-unexpected_not_deep h = let both : Path ℕ 31 32 = h in omega arith
-
-unknown_not_deep : unknown ≡ too_deep → ⊥
-unknown_not_deep h = let both : Path ℕ 36 32 = h in omega arith
-
-misplaced_not_deep : misplaced ≡ too_deep → ⊥
-misplaced_not_deep h = let both : Path ℕ 37 32 = h in omega arith
 
 module _ (w : Lexicon) where
   -- ---- arguments
 
   module _ (n : ℕ) where
     the_token : (test : Token → Bool) → Deepens n (λ m. token unexpected test)
-    the_token test = still_token n unexpected test unexpected_not_deep
+    the_token test = still_token n unexpected test not_unexpected
 
     wrong_deepens : {A : Type 0} → Deepens {A = A} n (λ m. wrong w)
     wrong_deepens {A} =
-        choosing n (λ t. is_close w t || begins_expr (inside w) t) (λ m. refuse {A = A} bad_arguments) (λ m. refuse unexpected) (still_refuse n bad_arguments arguments_not_deep) (still_refuse n unexpected unexpected_not_deep)
+        choosing n (λ t. is_close w t || begins_expr (inside w) t) (λ m. refuse {A = A} bad_arguments) (λ m. refuse unexpected) (still_refuse n bad_arguments not_bad_arguments) (still_refuse n unexpected not_unexpected)
 
     ending_deepens : (count : ℕ) (e : ExprTree) → Deepens n (λ m. ending w count e)
     ending_deepens count e = choosing n (continues w) (λ m. refuse (bad_kind count)) (λ m. pure e) (still_refuse n (bad_kind count) (kind_not_deep count)) (still_pure n e)
@@ -59,7 +49,7 @@ module _ (w : Lexicon) where
     value_deepens : Deepens n (λ m. value w m)
     unfolding value
     value_deepens =
-        choosing n (λ t. is_close w t || is_listed w t) (λ m. refuse bad_arguments) (λ m. expr_reader (inside w) m Assignment >>= (λ e. pure (ExprArg e))) (still_refuse n bad_arguments arguments_not_deep)
+        choosing n (λ t. is_close w t || is_listed w t) (λ m. refuse bad_arguments) (λ m. expr_reader (inside w) m Assignment >>= (λ e. pure (ExprArg e))) (still_refuse n bad_arguments not_bad_arguments)
         (in_order n (λ m. expr_reader (inside w) m Assignment) (λ m e. pure (ExprArg e)) (expr_deepens (inside w) Assignment n) (λ e. still_pure n (ExprArg e)))
 
     result_deepens : Deepens n (λ m. result w m)
@@ -68,7 +58,7 @@ module _ (w : Lexicon) where
 
     behind_arrow : (e : ExprTree) (a : Token) → Deepens n (λ m. taken unexpected (member_of w) >>= (λ m. ending w 3 (tree.Member e true m.0 m.1 a.place)))
     behind_arrow e a =
-        in_order n (λ m. taken unexpected (member_of w)) (λ m n. ending w 3 (tree.Member e true n.0 n.1 a.place)) (still_taken n unexpected (member_of w) unexpected_not_deep) (λ m. ending_deepens 3 (tree.Member e true m.0 m.1 a.place))
+        in_order n (λ m. taken unexpected (member_of w)) (λ m n. ending w 3 (tree.Member e true n.0 n.1 a.place)) (still_taken n unexpected (member_of w) not_unexpected) (λ m. ending_deepens 3 (tree.Member e true m.0 m.1 a.place))
 
     field_deepens : (e : ExprTree) → Deepens n (λ m. field w m e)
     unfolding field
@@ -81,7 +71,7 @@ module _ (w : Lexicon) where
     parameter_deepens : Deepens n (λ m. parameter w m)
     unfolding parameter
     parameter_deepens =
-        in_order n (λ m. taken unexpected (named w)) (λ m e. choose (is_arrow w) (guard (nat_lt m 2) too_deep (field w m e)) (ending w 1 e)) (still_taken n unexpected (named w) unexpected_not_deep)
+        in_order n (λ m. taken unexpected (named w)) (λ m e. choose (is_arrow w) (guard (nat_lt m 2) too_deep (field w m e)) (ending w 1 e)) (still_taken n unexpected (named w) not_unexpected)
         (λ e. guarded n (is_arrow w) (λ m. nat_lt m 2) (λ m. field w m e) (λ m. ending w 1 e) (λ m le h. room_wider n m 2 le h) (open_room n 2) (λ h. field_deepens e) (λ m le h. (field_deepens e).shrinks m le)
         (λ m le h ts k. field_enters e m ts k) (ending_deepens 1 e))
 
@@ -91,8 +81,8 @@ module _ (w : Lexicon) where
     behind_star : (s : Token) → Deepens n (λ m. from_star s)
     behind_star s =
         choosing n (is_place_name w) (λ m. taken unexpected (named w) >>= (λ e. ending w 2 (tree.Unary unary.Deref e s.place))) (λ m. choose (begins_expr (inside w)) (refuse (bad_kind 1)) (refuse unexpected))
-        (in_order n (λ m. taken unexpected (named w)) (λ m e. ending w 2 (tree.Unary unary.Deref e s.place)) (still_taken n unexpected (named w) unexpected_not_deep) (λ e. ending_deepens 2 (tree.Unary unary.Deref e s.place)))
-        (choosing n (begins_expr (inside w)) (λ m. refuse (bad_kind 1)) (λ m. refuse unexpected) (still_refuse n (bad_kind 1) (kind_not_deep 1)) (still_refuse n unexpected unexpected_not_deep))
+        (in_order n (λ m. taken unexpected (named w)) (λ m e. ending w 2 (tree.Unary unary.Deref e s.place)) (still_taken n unexpected (named w) not_unexpected) (λ e. ending_deepens 2 (tree.Unary unary.Deref e s.place)))
+        (choosing n (begins_expr (inside w)) (λ m. refuse (bad_kind 1)) (λ m. refuse unexpected) (still_refuse n (bad_kind 1) (kind_not_deep 1)) (still_refuse n unexpected not_unexpected))
 
     target_deepens : Deepens n (λ m. target w m)
     unfolding target
@@ -119,11 +109,11 @@ module _ (w : Lexicon) where
 
     separator_deepens : Deepens n (λ m. separator w m)
     unfolding separator
-    separator_deepens = choosing n (is_close w) (λ m. refuse bad_arguments) (λ m. token unexpected (is_comma w)) (still_refuse n bad_arguments arguments_not_deep) (the_token (is_comma w))
+    separator_deepens = choosing n (is_close w) (λ m. refuse bad_arguments) (λ m. token unexpected (is_comma w)) (still_refuse n bad_arguments not_bad_arguments) (the_token (is_comma w))
 
     closing_deepens : Deepens n (λ m. closing w m)
     unfolding closing
-    closing_deepens = choosing n (is_comma w) (λ m. refuse bad_arguments) (λ m. token unexpected (is_close w)) (still_refuse n bad_arguments arguments_not_deep) (the_token (is_close w))
+    closing_deepens = choosing n (is_comma w) (λ m. refuse bad_arguments) (λ m. token unexpected (is_close w)) (still_refuse n bad_arguments not_bad_arguments) (the_token (is_close w))
 
   -- ---- what one annotation leaves
 
@@ -145,10 +135,10 @@ module _ (w : Lexicon) where
   unfolding bare
   bare_deepens n k part may =
       in_order n (λ m. token unexpected (is_bare w)) (λ m t. choose (is_open w) (refuse bad_arguments) (pure (tree.Note t.text tree.NoArgs t.place))) (the_token n (is_bare w))
-      (λ t. choosing n (is_open w) (λ m. refuse bad_arguments) (λ m. pure (tree.Note t.text tree.NoArgs t.place)) (still_refuse n bad_arguments arguments_not_deep) (still_pure n (tree.Note t.text tree.NoArgs t.place)))
+      (λ t. choosing n (is_open w) (λ m. refuse bad_arguments) (λ m. pure (tree.Note t.text tree.NoArgs t.place)) (still_refuse n bad_arguments not_bad_arguments) (still_pure n (tree.Note t.text tree.NoArgs t.place)))
 
   lacking_deepens : (n k : ℕ) (part : (Token → Bool) → Parser Token NoteTree) (may : Token → Bool) → Deepens n (λ m. lacking w k part may)
-  lacking_deepens n k part may = choosing n (λ t. true) (λ m. refuse bad_arguments) (λ m. refuse unexpected) (still_refuse n bad_arguments arguments_not_deep) (still_refuse n unexpected unexpected_not_deep)
+  lacking_deepens n k part may = choosing n (λ t. true) (λ m. refuse bad_arguments) (λ m. refuse unexpected) (still_refuse n bad_arguments not_bad_arguments) (still_refuse n unexpected not_unexpected)
 
   module _ (m : ℕ) (part : (Token → Bool) → Parser Token NoteTree) (Part : (may : Token → Bool) → Shrinks (part may)) (may : Token → Bool) where
     inner_shrinks : (other : Token → Bool) → Shrinks (inner w m part may other)
@@ -292,7 +282,7 @@ module _ (w : Lexicon) where
     applied_deepens : Deepens n (λ m. applied w m (part m) may)
     unfolding applied
     applied_deepens =
-        in_order n (λ m. taken unexpected (head_of w)) (λ m h. choose (is_open w) (in_parentheses w m (part m) may h) (lacking w m (part m) may)) (still_taken n unexpected (head_of w) unexpected_not_deep)
+        in_order n (λ m. taken unexpected (head_of w)) (λ m h. choose (is_open w) (in_parentheses w m (part m) may h) (lacking w m (part m) may)) (still_taken n unexpected (head_of w) not_unexpected)
         (λ h. choosing n (is_open w) (λ m. in_parentheses w m (part m) may h) (λ m. lacking w m (part m) may) (enclosed_deepens h) (lacking_deepens n n (part n) may))
 
     abbrev behind_bare : ℕ → Parser Token NoteTree
@@ -302,7 +292,7 @@ module _ (w : Lexicon) where
     unfolding bare
     behind_bare_deepens =
         choosing n (is_bare w) (λ m. bare w m (part m) may) (λ m. choose (is_listed w) (applied w m (part m) may) (refuse unexpected)) (bare_deepens n n (part n) may)
-        (choosing n (is_listed w) (λ m. applied w m (part m) may) (λ m. refuse unexpected) applied_deepens (still_refuse n unexpected unexpected_not_deep))
+        (choosing n (is_listed w) (λ m. applied w m (part m) may) (λ m. refuse unexpected) applied_deepens (still_refuse n unexpected not_unexpected))
 
     deep_off : (m : ℕ) → n ≤ m → (ts : List Token) → at_next (is_deep n) ts ≡ false → at_next (is_deep m) ts ≡ false
     deep_off m le [] h = refl
@@ -329,8 +319,8 @@ module _ (w : Lexicon) where
     here_deepens : Deepens n (λ m. note w m (part m) may)
     unfolding note
     here_deepens =
-        choosing n (is_unlisted w) (λ m. refuse unknown) (λ m. choose (λ t. is_listed w t && not (may t)) (refuse misplaced) (choose (is_deep m) (refuse too_deep) (behind_bare m))) (still_refuse n unknown unknown_not_deep)
-        (choosing n (λ t. is_listed w t && not (may t)) (λ m. refuse misplaced) (λ m. choose (is_deep m) (refuse too_deep) (behind_bare m)) (still_refuse n misplaced misplaced_not_deep) behind_place_deepens)
+        choosing n (is_unlisted w) (λ m. refuse unknown) (λ m. choose (λ t. is_listed w t && not (may t)) (refuse misplaced) (choose (is_deep m) (refuse too_deep) (behind_bare m))) (still_refuse n unknown not_unknown)
+        (choosing n (λ t. is_listed w t && not (may t)) (λ m. refuse misplaced) (λ m. choose (is_deep m) (refuse too_deep) (behind_bare m)) (still_refuse n misplaced not_misplaced) behind_place_deepens)
 
   -- ---- annotations of each depth
 
@@ -341,18 +331,7 @@ module _ (w : Lexicon) where
       (shrinks_choose (λ t. is_listed w t && not (may t)) (refuse misplaced) _ (shrinks_refuse misplaced) (shrinks_choose (begins_note w) (refuse too_deep) (refuse unexpected) (shrinks_refuse too_deep) (shrinks_refuse unexpected)))
   note_shrinks (suc m) may = here_shrinks m (note_reader w m) (note_shrinks m) may
 
-  raised : {A : Type 0} (n : ℕ) (p : ℕ → Parser Token A) → Deepens n (λ m. p (suc m)) → Deepens (suc n) p
-  raised n p P = record { wide = wide; shrinks = shrinks; deeper = λ ts left e. (let d = P.deeper ts left e in (suc d.0, omega (arith, d.1), d.2)) }
-    where
-      wide : (m : ℕ) → suc n ≤ m → Wider (p (suc n)) (p m)
-      wide zero le = absurd (omega arith)
-      wide (suc m) le = P.wide m (omega arith)
-
-      shrinks : (m : ℕ) → suc n ≤ m → Shrinks (p m)
-      shrinks zero le = absurd (omega arith)
-      shrinks (suc m) le = P.shrinks m (omega arith)
-
-  -- without room: a listed annotation that may stand there is read by the readers of depth 2 and more up to its name, and further
+  -- without room: a listed annotation that may stand there is read by the readers of depth 2 and more past its name
   module _ (may : Token → Bool) (ts : List Token) where
     known_listed : (ts : List Token) → at_next (is_unlisted w) ts ≡ false → at_next (begins_note w) ts ≡ true → at_next (is_listed w) ts ≡ true
     known_listed [] h k = absurd (cc k)
@@ -382,10 +361,10 @@ module _ (w : Lexicon) where
         by_tests : (a b c : Bool) → at_next (is_unlisted w) ts ≡ a → at_next (is_misplaced may) ts ≡ b → at_next (begins_note w) ts ≡ c
             → Path (Outcome Token NoteTree) (if a then stop unknown (length ts) else (if b then stop misplaced (length ts) else (if c then stop too_deep (length ts) else stop unexpected (length ts)))) (stop too_deep left)
             → (m : ℕ) × (0 ≤ m) × Past left (note_reader w m may ts)
-        by_tests true b c h k l e = absurd (unknown_not_deep (cc e))
-        by_tests false true c h k l e = absurd (misplaced_not_deep (cc e))
+        by_tests true b c h k l e = absurd (not_unknown (cc e))
+        by_tests false true c h k l e = absurd (not_misplaced (cc e))
         by_tests false false true h k l e = let lefts : length ts ≡ left = cc e in (2, omega arith, subst (λ z. Past z (note_reader w 2 may ts)) lefts (note_enters 0 h k l))
-        by_tests false false false h k l e = absurd (unexpected_not_deep (cc e))
+        by_tests false false false h k l e = absurd (not_unexpected (cc e))
 
   pub note_deepens : (may : Token → Bool) (n : ℕ) → Deepens n (λ m. note_reader w m may)
   unfolding note_reader

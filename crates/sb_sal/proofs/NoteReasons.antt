@@ -6,20 +6,20 @@ use Rattle.sb_parse.specs.Lawful.{OnHead}
 use Rattle.sb_parse.proofs.Joining.{map_of}
 use Rattle.sb_tree.specs.Plain.{arg_list, note_list}
 use Rattle.sb_tree.specs.Trees as tree
-use Rattle.sb_tree.specs.Trees.{ExprTree, NoteTree, ArgTree, ExprArg, NoteArg, depth_of_notes}
-use Rattle.sb_expr.specs.Lexicon.{Lexicon}
-use Rattle.sb_expr.specs.Readers.{unexpected, too_deep, is_zero, is_open, is_star, bad_arguments, unknown, misplaced}
-use Rattle.sb_expr.proofs.Depths.{room_is}
-use Rattle.sb_expr.proofs.Ways.{and_first, and_second, or_first}
+use Rattle.sb_tree.specs.Trees.{NoteTree, ArgTree, ExprArg, depth_of_notes}
+use Rattle.sb_lexicon.specs.Lexicon.{Lexicon}
+use Rattle.sb_lexicon.specs.Tokens.{unexpected, too_deep, is_zero, is_open, is_star, bad_arguments, unknown, misplaced}
+use Rattle.sb_lexicon.proofs.Depths.{room_is}
+use Rattle.sb_parse.proofs.Ways.{and_first, and_second, or_first}
 use Rattle.sb_sal.specs.declared.spelling.Arguments.{Arguments}
 use Rattle.sb_sal.specs.declared.spelling.Arguments.TheVariants as arguments
 use Rattle.sb_sal.specs.Notes.{AreNotes, anywhere}
 use Rattle.sb_sal.specs.Readers.{is_nothing, is_bare, is_arrow, Head, head_of, continues, value, memory, location, inner, one, closing, arguments_by, in_parentheses, lacking, applied, bare, note, note_reader, next_note, notes_reader}
 use Rattle.sb_sal.specs.Reads.{FitsNote, IsFillable}
-use Rattle.sb_sal.specs.Reasons.{AValue, ANote, first, close, Awaits, second_of, takes_nothing, takes_something, IsNoteReason, no_annotation, no_place, other_arguments, deeper, no_text, IsRefusedNote}
+use Rattle.sb_sal.specs.Reasons.{AValue, ANote, first, close, takes_nothing, takes_something, IsNoteReason, no_annotation, no_place, other_arguments, deeper, no_text, IsRefusedNote}
 use Rattle.sb_sal.specs.Reasons as reason
 use Rattle.sb_sal.specs.Spellings.{begins_note, arguments_of, is_listed, is_unlisted}
-use Rattle.sb_sal.proofs.Explaining.{Explained, behind, at_once, not_done, at_choice, at_token, at_taken, Goes, in_turn, token_was, taken_was, next_is, mapped, reworded}
+use Rattle.sb_parse.proofs.Explaining.{Explained, behind, at_once, not_done, at_choice, at_token, at_taken, Goes, in_turn, token_was, taken_was, next_is, mapped, reworded}
 use Rattle.sb_sal.proofs.Tokens.{bare_by}
 use Rattle.sb_sal.proofs.Values.{value_law, location_law}
 use Rattle.sb_sal.proofs.Filled.{anywhere_filled}
@@ -27,7 +27,7 @@ use Rattle.sb_sal.proofs.Inside.{more_note}
 use Rattle.sb_sal.proofs.Noting.{enclosed, is_head}
 use Rattle.sb_sal.proofs.Annotations.{note_at, next_head, more_notes_behind, lawful_notes}
 use Rattle.sb_sal.proofs.NoteWider.{notes_wider}
-use Rattle.sb_sal.proofs.EveryDepth.{at_every_depth}
+use Rattle.sb_sal.proofs.EveryDepth.{at_every_depth, at_end}
 use Rattle.sb_sal.proofs.SomeDepth.{at_some_depth}
 use Rattle.sb_sal.proofs.NoteDeepening.{notes_deepen}
 use Rattle.sb_sal.proofs.ArgumentReasons.{further, deeper_by, wherever, Within, closing_why, value_why, inner_why, FirstRead, two_why, location_why, memory_why}
@@ -262,6 +262,8 @@ module _ (w : Lexicon) where
           reason = s.why;
           at_every_depth = λ not_deep. at_every_depth (AreNotes w may) (λ ns. depth_of_notes (note_list ns)) (more_notes_behind w) 0 (λ left. notes_reader w left may) (λ left some. lawful_notes w left may F)
               (λ n m some le. notes_wider w n m le may) left some ts n k e not_deep s.front s.bad s.split s.left_is;
+          at_end = λ not_deep. at_end (AreNotes w may) (λ ns. depth_of_notes (note_list ns)) (more_notes_behind w) 0 (λ left. notes_reader w left may) (λ left some. lawful_notes w left may F)
+              (λ n m some le. notes_wider w n m le may) left some ts n k e not_deep s.front s.bad s.split;
           at_some_depth = λ deep. at_some_depth (AreNotes w may) (λ ns. depth_of_notes (note_list ns)) (more_notes_behind w) 0 (λ left. notes_reader w left may) (λ left some. lawful_notes w left may F) left some (notes_deepen w may left)
               ts k (e ∙ ap (λ z. stop z k) deep) s.front s.bad s.split s.left_is;
         }

@@ -5,13 +5,14 @@ use Rattle.sb_parse.specs.Parser.{Outcome, Parser, done, stop, at_next, and_then
 use Rattle.sb_parse.proofs.Heads.{chosen}
 use Rattle.sb_tree.specs.Plain.{arg_list}
 use Rattle.sb_tree.specs.Trees as tree
-use Rattle.sb_tree.specs.Trees.{ExprTree, NoteTree, ArgTree, ExprArg, NoteArg}
+use Rattle.sb_tree.specs.Trees.{NoteTree, ArgTree, ExprArg, NoteArg}
 use Rattle.sb_expr.specs.Expression.{Assignment}
-use Rattle.sb_expr.specs.Lexicon.{Lexicon}
-use Rattle.sb_expr.specs.Readers.{unexpected, too_deep, unknown, misplaced, is_zero, is_open, is_star, expr_reader}
-use Rattle.sb_expr.proofs.Ways.{and_first}
-use Rattle.sb_expr.proofs.Wider.{Held, short, same, Wider, alike, one_by_one, behind, before, guarding, choosing, turning, room_wider}
-use Rattle.sb_expr.proofs.PartWider.{parts_wider}
+use Rattle.sb_lexicon.specs.Lexicon.{Lexicon}
+use Rattle.sb_expr.specs.Readers.{expr_reader}
+use Rattle.sb_lexicon.specs.Tokens.{unexpected, too_deep, unknown, misplaced, is_zero, is_open, is_star}
+use Rattle.sb_parse.proofs.Ways.{and_first}
+use Rattle.sb_lexicon.proofs.Wider.{Held, short, same, Wider, alike, one_by_one, behind, before, guarding, choosing, turning, room_wider}
+use Rattle.sb_expr.proofs.widening.EachDepth.{parts_wider}
 use Rattle.sb_sal.specs.declared.spelling.Arguments.{Arguments}
 use Rattle.sb_sal.specs.declared.spelling.Arguments.TheVariants as arguments
 use Rattle.sb_sal.specs.Notes.{inside, anywhere}
@@ -23,6 +24,11 @@ use Rattle.sb_sal.proofs.Narrower as narrow
 use Rattle.sb_sal.proofs.Tokens.{listed_begins, bare_listed}
 
 -- ---- truth values
+
+-- a test that fails wherever another does fails at the next token with it
+pub fails_too : (test other : Token → Bool) → ((t : Token) → test t ≡ false → other t ≡ false) → (ts : List Token) → at_next test ts ≡ false → at_next other ts ≡ false
+fails_too test other to [] h = refl
+fails_too test other to (t ∷ ts) h = to t h
 
 deep_off : (n m : ℕ) → n ≤ m → (b : Bool) → (is_zero n && b) ≡ false → (is_zero m && b) ≡ false
 deep_off zero zero le b h = h
@@ -139,10 +145,6 @@ module _ (w : Lexicon) where
       by_test false k = refl
       by_test true k = absurd (let both : true ≡ false = sym (bare_listed w t k) ∙ h in cc both)
 
-  off_next : (test other : Token → Bool) → ((t : Token) → test t ≡ false → other t ≡ false) → (ts : List Token) → at_next test ts ≡ false → at_next other ts ≡ false
-  off_next test other to [] h = refl
-  off_next test other to (t ∷ ts) h = to t h
-
   module _ (m : ℕ) (part : (Token → Bool) → Parser Token NoteTree) (may : Token → Bool) where
     abbrev is_deep : Token → Bool
     is_deep t = is_zero m && (is_listed w t && not (is_bare w t))
@@ -166,9 +168,9 @@ module _ (w : Lexicon) where
 
     unbegun : (ts : List Token) → at_next (begins_note w) ts ≡ false → from_deep ts ≡ stop unexpected (length ts)
     unbegun ts h =
-        let listed : at_next (is_listed w) ts ≡ false = off_next (begins_note w) (is_listed w) no_listed ts h in
-        chosen is_deep (refuse too_deep) from_bare ts false (off_next (is_listed w) is_deep no_deep ts listed)
-        ∙ chosen (is_bare w) (bare w m part may) from_listed ts false (off_next (is_listed w) (is_bare w) no_bare ts listed)
+        let listed : at_next (is_listed w) ts ≡ false = fails_too (begins_note w) (is_listed w) no_listed ts h in
+        chosen is_deep (refuse too_deep) from_bare ts false (fails_too (is_listed w) is_deep no_deep ts listed)
+        ∙ chosen (is_bare w) (bare w m part may) from_listed ts false (fails_too (is_listed w) (is_bare w) no_bare ts listed)
         ∙ chosen (is_listed w) (applied w m part may) (refuse unexpected) ts false listed
 
     note_starts : Wider (choose (begins_note w) (refuse too_deep) (refuse unexpected)) from_deep

@@ -8,12 +8,12 @@ use Rattle.sb_parse.specs.Lawful.{Lawful, OnHead, IsEmpty, Begun, Opened, Closed
 use Rattle.sb_parse.proofs.Joining.{nothing}
 use Rattle.sb_tree.specs.Plain.{arg_list}
 use Rattle.sb_tree.specs.Trees as tree
-use Rattle.sb_tree.specs.Trees.{ExprTree, NoteTree, ArgTree, ExprArg, NoteArg, depth_of_expr, depth_of_arg, depth_of_args, depth_of_note}
-use Rattle.sb_expr.specs.Lexicon.{Lexicon}
-use Rattle.sb_expr.specs.Readers.{unexpected, too_deep, is_zero, is_open, is_close, bad_arguments, unknown, misplaced}
-use Rattle.sb_expr.proofs.Depths.{some_depth, some_room, room_is}
-use Rattle.sb_expr.proofs.Ways.{and_first, and_second, goes_on_where, Refuses, one_refuses, both_refuse, only_else, halted}
-use Rattle.sb_expr.proofs.Lexemes.{close_token, close_token_is}
+use Rattle.sb_tree.specs.Trees.{NoteTree, ArgTree, ExprArg, NoteArg, depth_of_arg, depth_of_args, depth_of_note}
+use Rattle.sb_lexicon.specs.Lexicon.{Lexicon}
+use Rattle.sb_lexicon.specs.Tokens.{unexpected, too_deep, is_zero, is_open, is_close, bad_arguments, unknown, misplaced}
+use Rattle.sb_lexicon.proofs.Depths.{some_depth, some_room, room_is}
+use Rattle.sb_parse.proofs.Ways.{and_first, and_second, goes_on_where, Refuses, one_refuses, both_refuse, only_else, halted}
+use Rattle.sb_lexicon.proofs.Lexemes.{close_token, close_token_is}
 use Rattle.sb_sal.specs.declared.spelling.Arguments.{Arguments}
 use Rattle.sb_sal.specs.declared.spelling.Arguments.TheVariants as arguments
 use Rattle.sb_sal.specs.Notes.{anywhere, IsNote, is_bare, has_arguments, AreArguments, one_size, two_sizes, a_condition, memory, a_note, guarded, located}
@@ -21,7 +21,7 @@ use Rattle.sb_sal.specs.Readers as reader
 use Rattle.sb_sal.specs.Readers.{is_nothing, Head, head_of, arguments_by, in_parentheses, lacking, applied, bare, note}
 use Rattle.sb_sal.specs.Reads.{FitsNote, IsFillable}
 use Rattle.sb_sal.specs.Spellings.{begins_note, arguments_of, is_listed, is_unlisted}
-use Rattle.sb_sal.proofs.Partly.{Nowhere, Partly, partly_via, refusing, choosing, opened_head, given, given_at, given_by, begun_head, closed_by}
+use Rattle.sb_parse.proofs.Partly.{Nowhere, Partly, partly_via, refusing, choosing, opened_head, given, given_at, given_by, begun_head, closed_by}
 use Rattle.sb_sal.proofs.Tokens.{listed_with, listed_begins, has_arguments_of, bare_by, bare_takes_nothing, bare_listed, open_token, open_token_is}
 use Rattle.sb_sal.proofs.Filled.{own, own_mem, bare_anywhere, anywhere_filled}
 use Rattle.sb_sal.proofs.Inside.{more_note, FitsInside, Enclosed, closing_law, sized, conditioned, sized_twice, remembered, noted, guarded_note, located_note}

@@ -4,14 +4,14 @@ use Rattle.sb_base.specs.declared.tokens.Token.{Token}
 use Rattle.sb_parse.specs.Parser.{Outcome, Parser, stop}
 use Rattle.sb_parse.specs.Lawful.{Part, Stuck, Lawful}
 use Rattle.sb_parse.specs.Read.{CanBegin}
-use Rattle.sb_expr.specs.Readers.{too_deep}
-use Rattle.sb_expr.specs.Reads.{GoesOn}
+use Rattle.sb_lexicon.specs.Tokens.{too_deep}
+use Rattle.sb_lexicon.specs.Outcomes.{GoesOn}
 use Rattle.sb_sal.proofs.Deepening.{Past, read_past, stopped_past, Deepens}
 use Rattle.sb_sal.proofs.ExprDeepening.{same_middle}
 
 -- ---- the place
 
--- a text that goes on behind a token begins with the token
+-- if some text begins with tokens past this one, some text begins with those up to it
 begins_past : {A : Type 0} (Is : List Token → A → Type 0) (front : List Token) (t : Token) (rest us vs : List Token) → front ++ (t ∷ rest) ≡ us ++ vs → length vs < length (t ∷ rest) → CanBegin Is us → CanBegin Is (front ++ (t ∷ []))
 begins_past Is front t rest us vs e less c =
     let m : (mid : List Token) × (us ≡ front ++ mid) × (t ∷ rest ≡ mid ++ vs) = same_middle us vs front (t ∷ rest) (sym e) (omega arith) in

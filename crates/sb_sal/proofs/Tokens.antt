@@ -6,18 +6,18 @@ use Rattle.sb_base.specs.declared.refusals.Place.{Place}
 use Rattle.sb_base.specs.declared.tokens.PpKind.{PpKind}
 use Rattle.sb_base.specs.declared.tokens.PpKind.TheVariants as kind
 use Rattle.sb_base.specs.declared.tokens.Token.{Token}
-use Rattle.sb_tree.specs.declared.sign.Keyword.{Keyword}
-use Rattle.sb_tree.specs.declared.sign.Keyword.TheVariants as keyword
-use Rattle.sb_tree.specs.declared.sign.Mark.{Mark}
-use Rattle.sb_tree.specs.declared.sign.Mark.TheVariants as mark
-use Rattle.sb_tree.specs.Signs as sign
+use Rattle.sb_sign.specs.declared.sign.Keyword.{Keyword}
+use Rattle.sb_sign.specs.declared.sign.Keyword.TheVariants as keyword
+use Rattle.sb_sign.specs.declared.sign.Mark.{Mark}
+use Rattle.sb_sign.specs.declared.sign.Mark.TheVariants as mark
+use Rattle.sb_sign.specs.Signs as sign
 use Rattle.sb_tree.specs.Trees as tree
 use Rattle.sb_tree.specs.Trees.{ExprTree, depth_of_expr}
-use Rattle.sb_expr.specs.Lexicon.{Lexicon, is_mark, name_of, is_type_name, operand_of, suffix_at, binary_at, assignment_at, by_mark}
-use Rattle.sb_expr.specs.Readers.{is_open, is_close, is_comma, is_star}
-use Rattle.sb_expr.specs.Reads.{nowhere}
-use Rattle.sb_expr.proofs.Ways.{and_fails}
-use Rattle.sb_expr.proofs.Lexemes.{mark_is, mark_alone, name_no_keyword, mark_no_keyword}
+use Rattle.sb_lexicon.specs.Lexicon.{Lexicon, is_mark, name_of, is_type_name, operand_of, suffix_at, binary_at, assignment_at, by_mark}
+use Rattle.sb_lexicon.specs.Tokens.{is_open, is_close, is_comma, is_star}
+use Rattle.sb_lexicon.specs.Outcomes.{nowhere}
+use Rattle.sb_parse.proofs.Ways.{and_fails}
+use Rattle.sb_lexicon.proofs.Lexemes.{mark_is, mark_alone, name_no_keyword, mark_no_keyword}
 use Rattle.sb_sal.specs.declared.spelling.Arguments.{Arguments}
 use Rattle.sb_sal.specs.declared.spelling.Arguments.TheVariants as arguments
 use Rattle.sb_sal.specs.Notes.{place_name}

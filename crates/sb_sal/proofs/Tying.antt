@@ -8,8 +8,8 @@ use Rattle.sb_base.specs.declared.tokens.Token.{Token}
 use Rattle.sb_parse.specs.Read.{HasOneTree}
 use Rattle.sb_tree.specs.declared.syntax.Note.{Note}
 use Rattle.sb_tree.specs.Plain.{plain_notes}
-use Rattle.sb_expr.specs.Lexicon.{Lexicon}
-use Rattle.sb_expr.specs.Reads.{IsLongestRead}
+use Rattle.sb_lexicon.specs.Lexicon.{Lexicon}
+use Rattle.sb_lexicon.specs.Outcomes.{IsLongestRead}
 use Rattle.sb_sal.specs.declared.bearer.Bearer.{Bearer}
 use Rattle.sb_sal.specs.declared.bearer.Bearer.TheVariants as bearer
 use Rattle.sb_sal.specs.Notes.{AreNotes}
@@ -29,12 +29,14 @@ module _ (w : Lexicon) where
   notes_read tokens next left now (Err Memory) is = tt
 
   pub notes_have_reason : (tokens : List Token) (next left now : ℕ) (result : Result (Vec Note Global) Stop) → IsNotesRead w tokens next left now result
-      → HasNoteReason w (may_stand w bearer.Any) tokens next result
+      → HasNoteReason w left (may_stand w bearer.Any) tokens next result
   notes_have_reason tokens next left now (Ok v) is = tt
   notes_have_reason tokens next left now (Err (Refused r)) is = record {
     number = is.number;
     left = is.left;
     is = is.is;
+    stops = is.stops;
+    refused = notes_refused w left (may_stand w bearer.Any) (filled w bearer.Any) (drop next tokens) is.number is.left is.stops;
     because = notes_reason w left (may_stand w bearer.Any) (filled w bearer.Any) (drop next tokens) is.number is.left is.stops;
   }
   notes_have_reason tokens next left now (Err Memory) is = tt

@@ -8,9 +8,10 @@ use Rattle.sb_tree.specs.Plain.{arg_list}
 use Rattle.sb_tree.specs.Trees as tree
 use Rattle.sb_tree.specs.Trees.{ExprTree, NoteTree, ArgTree, ExprArg, NoteArg, depth_of_expr}
 use Rattle.sb_expr.specs.Expression.{Assignment}
-use Rattle.sb_expr.specs.Lexicon.{Lexicon}
-use Rattle.sb_expr.specs.Readers.{is_close, expr_reader}
-use Rattle.sb_expr.proofs.Depths.{some_depth}
+use Rattle.sb_lexicon.specs.Lexicon.{Lexicon}
+use Rattle.sb_expr.specs.Readers.{expr_reader}
+use Rattle.sb_lexicon.specs.Tokens.{is_close}
+use Rattle.sb_lexicon.proofs.Depths.{some_depth}
 use Rattle.sb_sal.specs.declared.spelling.Arguments.{Arguments}
 use Rattle.sb_sal.specs.declared.spelling.Arguments.TheVariants as arguments
 use Rattle.sb_sal.specs.Notes.{inside, anywhere, IsLocation, is_result, is_parameter, is_target, is_field, IsValue, is_value, IsNote, is_bare, has_arguments, AreArguments, one_size, two_sizes, a_condition, memory, a_note, guarded, located, AreNotes, no_notes, more_notes}
@@ -112,9 +113,6 @@ module _ (w : Lexicon) where
         let rest : zs ++ (c ∷ us) ≡ os ++ (d ∷ vs) = cc it.1 in
         let next = note_first anywhere zs n second os m third (c ∷ us) (d ∷ vs) rest (note_ends_at_close w n c h) (note_ends_at_close w m d k) in
         (ap (λ z. ExprArg z ∷ (NoteArg n ∷ [])) it.0 ∙ ap (λ z. ExprArg f ∷ (NoteArg z ∷ [])) next.0, next.1)
-
-  pub one_note : (may : Token → Bool) (ts : List Token) (n m : NoteTree) → IsNote w may ts n → IsNote w may ts m → n ≡ m
-  one_note may ts n m is also = (note_first may ts n is ts m also [] [] refl refl refl).0
 
   -- ---- a list, from its first annotation on
 

@@ -13,18 +13,19 @@ use Rattle.sb_tree.specs.declared.operator.UnaryOp.TheVariants as unary
 use Rattle.sb_tree.specs.Trees as tree
 use Rattle.sb_tree.specs.Trees.{ExprTree, ArgTree, ExprArg, NoteArg, depth_of_expr, depth_of_arg}
 use Rattle.sb_expr.specs.Expression.{Infix, Assignment, IsExpr, is_operand, is_primary, is_postfix, is_uncast, is_tighter, is_infix, is_chosen}
-use Rattle.sb_expr.specs.Lexicon.{Lexicon, name_of}
-use Rattle.sb_expr.specs.Readers.{unexpected, too_deep, is_close, is_comma, is_star, begins_expr, expr_reader, bad_arguments, bad_kind}
+use Rattle.sb_lexicon.specs.Lexicon.{Lexicon, name_of}
+use Rattle.sb_expr.specs.Readers.{expr_reader}
+use Rattle.sb_lexicon.specs.Tokens.{unexpected, too_deep, is_close, is_comma, is_star, begins_expr, bad_arguments, bad_kind}
 use Rattle.sb_expr.specs.Reads.{FitsExpr}
-use Rattle.sb_expr.proofs.More.{more}
-use Rattle.sb_expr.proofs.Begins.{expr_begins, begins_with_no_close}
-use Rattle.sb_expr.proofs.Ends.{close_ends_assignment, comma_ends}
+use Rattle.sb_expr.proofs.tokens.More.{more}
+use Rattle.sb_expr.proofs.tokens.Begins.{expr_begins, begins_with_no_close}
+use Rattle.sb_expr.proofs.tokens.Ends.{close_ends_assignment, comma_ends}
 use Rattle.sb_expr.proofs.Tying.{lawful_parts}
-use Rattle.sb_expr.proofs.Ways.{second_fails, Refuses, one_refuses, both_refuse, only_else, halted}
+use Rattle.sb_parse.proofs.Ways.{second_fails, Refuses, one_refuses, both_refuse, only_else, halted}
 use Rattle.sb_sal.specs.Notes.{inside, place_name, IsLocation, is_result, is_parameter, is_target, is_field, IsValue, is_value}
 use Rattle.sb_sal.specs.Readers.{is_arrow, is_return, is_place_name, continues, named, member_of, wrong, ending, result, field, parameter, target, location, value, memory}
 use Rattle.sb_sal.specs.Spellings.{is_listed, is_mem}
-use Rattle.sb_sal.proofs.Partly.{Nowhere, with_text, refusing, choosing, Unless, unless, opened_head, given, given_at, given_by, begun_head}
+use Rattle.sb_parse.proofs.Partly.{Nowhere, with_text, refusing, choosing, Unless, unless, opened_head, given, given_at, given_by, begun_head}
 use Rattle.sb_sal.proofs.Tokens.{arrow_continues, place_named, named_by, name_not_return, star_not_return, star_not_name, return_token, return_token_is, number_token, number_tree, number_token_is, flat_number, number_begins_value, name_token, name_token_is, place_token_is}
 
 -- what goes on from a size or condition

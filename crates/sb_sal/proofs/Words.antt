@@ -1,9 +1,9 @@
 -- Texts of words, and how a token of a table is spelled.
-use Rattle.std.proofs.Common.{◌≡◌, ℕ, ◌<◌, ◌^◌, Bool, true, false, List, [], ◌∷◌, take, length, nat_eq, nat_lt, refl, ap, sym, ◌∙◌, if◌then◌else◌, arith}
+use Rattle.std.proofs.Common.{◌≡◌, ℕ, ◌<◌, ◌^◌, true, List, [], ◌∷◌, take, length, nat_eq, nat_lt, refl, ap, if◌then◌else◌, arith}
 use Rattle.std.specs.List.{starts_with}
 use Rattle.std.specs.Str.{bytes_eq}
 use Rattle.sb_base.specs.declared.tokens.Token.{Token}
-use Rattle.sb_tree.specs.Signs.{spelling_of}
+use Rattle.sb_sign.specs.Signs.{spelling_of}
 use Rattle.sb_sal.specs.Spellings.{begins_with, word_of, own_word}
 
 other_way : (xs ys : List ℕ) → bytes_eq xs ys ≡ bytes_eq ys xs

@@ -4,9 +4,9 @@ use Rattle.sb_base.specs.declared.tokens.Token.{Token}
 use Rattle.sb_parse.specs.Parser.{Outcome, Parser, done}
 use Rattle.sb_tree.specs.Plain.{plain_expr, plain_arg, plain_args, plain_note, plain_notes, arg_list, note_list}
 use Rattle.sb_tree.specs.Trees.{ExprTree, ArgTree, NoteTree, depth_of_expr, depth_of_arg, depth_of_args, depth_of_note, depth_of_notes}
-use Rattle.sb_expr.specs.declared.reading.ReadFault.{ReadFault}
-use Rattle.sb_expr.specs.Lexicon.{Lexicon}
-use Rattle.sb_expr.specs.Meaning.{IsFault}
+use Rattle.sb_lexicon.specs.declared.reading.ReadFault.{ReadFault}
+use Rattle.sb_lexicon.specs.Lexicon.{Lexicon}
+use Rattle.sb_lexicon.specs.Meaning.{IsFault}
 use Rattle.sb_sal.specs.declared.bearer.Bearer.{Bearer}
 use Rattle.sb_sal.specs.declared.lexemes.Head as declared_head
 use Rattle.sb_sal.specs.declared.trees.FoundNote.{FoundNote}

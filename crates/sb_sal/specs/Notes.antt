@@ -4,13 +4,13 @@ use Rattle.sb_base.specs.declared.interning.Name.{Name}
 use Rattle.sb_base.specs.declared.tokens.Token.{Token}
 use Rattle.sb_parse.specs.Parser.{at_next}
 use Rattle.sb_tree.specs.declared.operator.UnaryOp.TheVariants as unary
-use Rattle.sb_tree.specs.declared.sign.Keyword.TheVariants as keyword
-use Rattle.sb_tree.specs.declared.sign.Mark.TheVariants as mark
+use Rattle.sb_sign.specs.declared.sign.Keyword.TheVariants as keyword
+use Rattle.sb_sign.specs.declared.sign.Mark.TheVariants as mark
 use Rattle.sb_tree.specs.Plain.{arg_list}
 use Rattle.sb_tree.specs.Trees as tree
 use Rattle.sb_tree.specs.Trees.{ExprTree, NoteTree, ArgTree, ExprArg, NoteArg}
 use Rattle.sb_expr.specs.Expression.{Assignment, IsExpr}
-use Rattle.sb_expr.specs.Lexicon.{Lexicon, is_mark, is_keyword, name_of}
+use Rattle.sb_lexicon.specs.Lexicon.{Lexicon, is_mark, is_keyword, name_of}
 use Rattle.sb_sal.specs.declared.spelling.Arguments.{Arguments}
 use Rattle.sb_sal.specs.declared.spelling.Arguments.TheVariants as arguments
 use Rattle.sb_sal.specs.Spellings.{arguments_of, is_listed, is_mem}

@@ -5,8 +5,8 @@ use Rattle.sb_parse.specs.Parser.{Parser, ◌>>=◌, pure, refuse, token, taken,
 use Rattle.sb_tree.specs.declared.operator.UnaryOp.TheVariants as unary
 use Rattle.sb_tree.specs.Trees as tree
 use Rattle.sb_tree.specs.Trees.{ExprTree, NoteTree, ArgTree, ExprArg, NoteArg}
-use Rattle.sb_expr.specs.Lexicon.{Lexicon}
-use Rattle.sb_expr.specs.Readers.{unexpected, too_deep, bad_arguments, bad_kind, unknown, misplaced, is_open, is_close, is_comma, is_star, begins_expr}
+use Rattle.sb_lexicon.specs.Lexicon.{Lexicon}
+use Rattle.sb_lexicon.specs.Tokens.{unexpected, too_deep, bad_arguments, bad_kind, unknown, misplaced, is_open, is_close, is_comma, is_star, begins_expr}
 use Rattle.sb_sal.specs.Notes.{inside}
 use Rattle.sb_sal.specs.Readers.{is_arrow, is_return, is_bare, is_place_name, named, member_of, ending, wrong}
 use Rattle.sb_sal.specs.Spellings.{begins_note, is_listed, is_unlisted, is_mem}

@@ -7,15 +7,16 @@ use Rattle.sb_base.specs.declared.refusals.Place.{Place}
 use Rattle.sb_base.specs.declared.tokens.Token.{Token}
 use Rattle.sb_parse.specs.Parser.{Parser, ◌>>=◌, pure, refuse, token, taken, choose, guard, looped}
 use Rattle.sb_tree.specs.declared.operator.UnaryOp.TheVariants as unary
-use Rattle.sb_tree.specs.declared.sign.Keyword.TheVariants as keyword
-use Rattle.sb_tree.specs.declared.sign.Mark.TheVariants as mark
+use Rattle.sb_sign.specs.declared.sign.Keyword.TheVariants as keyword
+use Rattle.sb_sign.specs.declared.sign.Mark.TheVariants as mark
 use Rattle.sb_tree.specs.Plain.{arg_list}
-use Rattle.sb_tree.specs.Signs as sign
+use Rattle.sb_sign.specs.Signs as sign
 use Rattle.sb_tree.specs.Trees as tree
 use Rattle.sb_tree.specs.Trees.{ExprTree, NoteTree, ArgTree, ExprArg, NoteArg}
 use Rattle.sb_expr.specs.Expression.{Assignment}
-use Rattle.sb_expr.specs.Lexicon.{Lexicon, is_mark, is_keyword, name_of, binary_at, assignment_of}
-use Rattle.sb_expr.specs.Readers.{unexpected, too_deep, bad_arguments, bad_kind, unknown, misplaced, is_zero, is_open, is_close, is_comma, is_star, is_question, is_suffix, begins_expr, expr_reader}
+use Rattle.sb_lexicon.specs.Lexicon.{Lexicon, is_mark, is_keyword, name_of, binary_at, assignment_of}
+use Rattle.sb_expr.specs.Readers.{expr_reader}
+use Rattle.sb_lexicon.specs.Tokens.{unexpected, too_deep, bad_arguments, bad_kind, unknown, misplaced, is_zero, is_open, is_close, is_comma, is_star, is_question, is_suffix, begins_expr}
 use Rattle.sb_sal.specs.declared.spelling.Arguments.{Arguments}
 use Rattle.sb_sal.specs.declared.spelling.Arguments.TheVariants as arguments
 use Rattle.sb_sal.specs.Notes.{inside, place_name, anywhere}

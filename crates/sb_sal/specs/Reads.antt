@@ -7,8 +7,8 @@ use Rattle.sb_base.specs.declared.tokens.Token.{Token}
 use Rattle.sb_tree.specs.declared.syntax.Note.{Note}
 use Rattle.sb_tree.specs.Plain.{note_list, plain_notes}
 use Rattle.sb_tree.specs.Trees.{NoteTree, depth_of_note, depth_of_notes}
-use Rattle.sb_expr.specs.Lexicon.{Lexicon}
-use Rattle.sb_expr.specs.Reads.{IsOutcome}
+use Rattle.sb_lexicon.specs.Lexicon.{Lexicon}
+use Rattle.sb_lexicon.specs.Outcomes.{IsOutcome}
 use Rattle.sb_sal.specs.declared.bearer.Bearer.TheVariants as bearer
 use Rattle.sb_sal.specs.declared.spelling.Arguments.TheVariants as arguments
 use Rattle.sb_sal.specs.Notes.{IsNote, AreNotes}

@@ -4,16 +4,19 @@ use Rattle.sb_base.specs.declared.refusals.Refusal.{Refusal}
 use Rattle.sb_base.specs.declared.refusals.Stop.{Stop}
 use Rattle.sb_base.specs.declared.refusals.Stop.TheVariants.{Refused, Memory}
 use Rattle.sb_base.specs.declared.tokens.Token.{Token}
-use Rattle.sb_tree.specs.Trees.{ExprTree, ArgTree}
+use Rattle.sb_parse.specs.Parser.{stop}
+use Rattle.sb_parse.specs.Read.{IsRefused}
+use Rattle.sb_tree.specs.Trees.{ExprTree, NoteTree, ArgTree}
 use Rattle.sb_expr.specs.Expression.{Assignment, IsExpr}
-use Rattle.sb_expr.specs.Lexicon.{Lexicon}
-use Rattle.sb_expr.specs.Readers.{unexpected, too_deep, is_open, is_close, is_comma, is_star, begins_expr, bad_arguments, unknown, misplaced, bad_kind}
-use Rattle.sb_expr.specs.Reads.{GoesOn, IsStop}
-use Rattle.sb_expr.specs.Reasons.{IsReason}
+use Rattle.sb_lexicon.specs.Lexicon.{Lexicon}
+use Rattle.sb_lexicon.specs.Tokens.{unexpected, too_deep, is_open, is_close, is_comma, is_star, begins_expr, bad_arguments, unknown, misplaced, bad_kind}
+use Rattle.sb_lexicon.specs.Outcomes.{GoesOn, IsStop}
+use Rattle.sb_lexicon.specs.Reasons.{IsReason}
 use Rattle.sb_sal.specs.declared.spelling.Arguments.{Arguments}
 use Rattle.sb_sal.specs.declared.spelling.Arguments.TheVariants as arguments
 use Rattle.sb_sal.specs.Notes.{inside, IsLocation, IsValue, AreArguments, AreNotes}
-use Rattle.sb_sal.specs.Readers.{is_bare, is_arrow, is_place_name, continues}
+use Rattle.sb_sal.specs.Readers.{is_bare, is_arrow, is_place_name, continues, notes_reader}
+use Rattle.sb_sal.specs.Reads.{FitsNotes}
 use Rattle.sb_sal.specs.Spellings.{arguments_of, is_listed, is_unlisted, is_mem}
 
 -- what may come next in the arguments of an annotation
@@ -54,13 +57,15 @@ pub data Awaits (w : Lexicon) : Arguments → List Token → Expected → Type 0
 
 -- The token shows another number or kind of arguments: an argument is missing at `)`, and one too many begins behind `,`;
 -- an annotation stands for a size or a condition, and what begins an expression for a location, the word `Mem` or an annotation.
+-- Right tokens pass too; that this one goes nowhere is said by `at_every_depth`.
 abbrev pub shows_other : Lexicon → Expected → Token → Bool
 shows_other w AValue t = is_close w t || is_listed w t
 shows_other w AComma t = is_close w t
 shows_other w AClose t = is_comma w t
 shows_other w _ t = is_close w t || begins_expr (inside w) t
 
--- the first argument is no location or `Mem`: the token behind these tokens of it makes another expression
+-- The first argument is no location or `Mem`: the token behind these tokens of it makes another expression.
+-- Right tokens pass too, as `->` behind a name; that this one goes nowhere is said by `at_every_depth`.
 pub data GoesElsewhere (w : Lexicon) : Arguments → List Token → Token → Type 0 where
   from_location : (ts : List Token) (e : ExprTree) (t : Token) → IsLocation w ts e → continues w t ≡ true → GoesElsewhere w arguments.LocatedNote ts t
   from_star : (s t : Token) → is_star w s ≡ true → is_place_name w t ≡ false → begins_expr (inside w) t ≡ true → GoesElsewhere w arguments.LocatedNote (s ∷ []) t
@@ -100,7 +105,7 @@ pub data IsNoteReason (w : Lexicon) (may : Token → Bool) (front bad : List Tok
   no_place : (t : Token) (rest : List Token) → bad ≡ t ∷ rest → is_listed w t ≡ true → may t ≡ false → IsNoteReason w may front bad misplaced
   other_arguments : IsBadArguments w front bad → IsNoteReason w may front bad bad_arguments
   other_kind : (count : ℕ) → IsBadKind w front bad count → IsNoteReason w may front bad (bad_kind count)
-  -- in a size or a condition
+  -- behind some tokens, as in an expression
   in_expression : (before behind : List Token) (n : ℕ) → front ≡ before ++ behind → IsReason (inside w) (IsExpr (inside w) Assignment) behind bad n → IsNoteReason w may front bad n
   -- an annotation, or `*` or `->` of a location, for which there is no room
   deeper : (t : Token) (rest : List Token) → bad ≡ t ∷ rest → (is_listed w t || (is_star w t || is_arrow w t)) ≡ true → IsNoteReason w may front bad too_deep
@@ -116,29 +121,22 @@ pub record IsRefusedNote (w : Lexicon) (may : Token → Bool) (ts : List Token) 
   pub reason : IsNoteReason w may front bad n
   -- a refusal that is not for want of depth holds at every depth: no list goes on there, however deep
   pub at_every_depth : (n ≡ too_deep → ⊥) → GoesOn (AreNotes w may) front bad → ⊥
+  -- where the tokens end, they are no list of any depth
+  pub at_end : (n ≡ too_deep → ⊥) → bad ≡ [] → (ns : List NoteTree) → AreNotes w may front ns → ⊥
   -- for want of depth: a deeper list goes on there
   pub at_some_depth : n ≡ too_deep → GoesOn (AreNotes w may) front bad
 
--- an argument of an annotation begins at the first of the last `left` tokens
-pub record BeginsArgument (w : Lexicon) (ts : List Token) (left : ℕ) : Type 0 where
-  pub before : List Token
-  pub rest : List Token
-  pub name : Token
-  pub opening : Token
-  pub split : ts ≡ before ++ (name ∷ (opening ∷ rest))
-  pub left_is : left ≡ length rest
-  pub listed : is_listed w name ≡ true
-  pub opens : is_open w opening ≡ true
-
--- the refusal of a list of tokens whose last part `ts` is read as annotations
-pub record AreRefusedBecause (w : Lexicon) (may : Token → Bool) (tokens ts : List Token) (r : Refusal) : Type 0 where
+-- The refusal of a list of tokens whose last part `ts` is read as annotations, which are at most `room` deep: all is said of one number and one token.
+pub record AreRefusedBecause (w : Lexicon) (room : ℕ) (may : Token → Bool) (tokens ts : List Token) (r : Refusal) : Type 0 where
   pub number : ℕ
   pub left : ℕ
   pub is : IsStop tokens number left r
+  pub stops : notes_reader w room may ts ≡ stop number left
+  pub refused : IsRefused (FitsNotes w room may) ts left
   pub because : IsRefusedNote w may ts number left
 
 -- a refusal that a call answers has a reason
-abbrev pub HasNoteReason : {E : Type 0} → Lexicon → (Token → Bool) → List Token → ℕ → Result E Stop → Type 0
-HasNoteReason w may tokens next (Ok e) = Unit {0}
-HasNoteReason w may tokens next (Err (Refused r)) = AreRefusedBecause w may tokens (drop next tokens) r
-HasNoteReason w may tokens next (Err Memory) = Unit {0}
+abbrev pub HasNoteReason : {E : Type 0} → Lexicon → ℕ → (Token → Bool) → List Token → ℕ → Result E Stop → Type 0
+HasNoteReason w room may tokens next (Ok e) = Unit {0}
+HasNoteReason w room may tokens next (Err (Refused r)) = AreRefusedBecause w room may tokens (drop next tokens) r
+HasNoteReason w room may tokens next (Err Memory) = Unit {0}

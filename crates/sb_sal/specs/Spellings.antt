@@ -2,8 +2,8 @@
 use Rattle.std.specs.Prelude.{ℕ, ◌^◌, Bool, true, false, ◌&&◌, ◌||◌, not, List, ◌∷◌, length, take, nat_eq, nat_lt, Option, Some, None, is_some, if◌then◌else◌, codes}
 use Rattle.std.specs.Str.{bytes_eq}
 use Rattle.sb_base.specs.declared.tokens.Token.{Token}
-use Rattle.sb_tree.specs.Signs.{first_some, spelling_of}
-use Rattle.sb_expr.specs.Lexicon.{Lexicon, name_of, is_type_name}
+use Rattle.sb_sign.specs.Signs.{first_some, spelling_of}
+use Rattle.sb_lexicon.specs.Lexicon.{Lexicon, name_of, is_type_name}
 use Rattle.sb_sal.specs.declared.spelling.Arguments.{Arguments}
 use Rattle.sb_sal.specs.declared.spelling.Arguments.TheVariants as arguments
 use Rattle.sb_sal.specs.declared.bearer.Bearer.{Bearer}

@@ -1,6 +1,6 @@
 //! The arguments of annotations that are no annotations themselves, and what stands between arguments.
 ghost use Rattle.std.specs.Prelude.{◌≡◌, ◌≤◌, ◌<◌, IfOk};
-ghost use Rattle.sb_expr.specs.Meaning.{meant, Gives};
+ghost use Rattle.sb_lexicon.specs.Meaning.{meant, Gives};
 ghost use Rattle.sb_sal.specs.Meaning.{ReadsArgument};
 ghost use Rattle.sb_sal.specs.Parts as part;
 ghost use Rattle.sb_sal.specs.Readers as spec;
@@ -9,8 +9,9 @@ use crate::lexemes::{inside, is_mem_next, is_other_next, is_value_missing, take_
 use crate::locations::ended_word;
 use crate::trees::{Argument, expr_argument, location_argument};
 use sb_base::Token;
-use sb_expr::{Level, Lexicon, Read, ReadFault, Reason, is_mark_next, take_mark, within};
-use sb_tree::Mark;
+use sb_expr::{Level, within};
+use sb_lexicon::{Lexicon, Read, ReadFault, Reason, is_mark_next, take_mark};
+use sb_sign::Mark;
 use std::alloc::Global;
 
 /// A size or a condition.

@@ -1,7 +1,7 @@
 //! What annotations stand on.
 
 /// The kind of declaration that annotations stand before.
-#[derive(Clone, Copy, Debug, PartialEq, Eq)]
+#[derive(Clone, Copy)]
 pub enum Bearer {
     Parameter,
     /// A member of a structure.

@@ -1,26 +1,26 @@
 //! What tokens are to annotations: tests of one token, and of the next one.
 ghost use Rattle.std.specs.Prelude.{◌≡◌, ◌&&◌, ◌||◌, not};
-ghost use Rattle.sb_expr.specs.Lexicon as lex;
-ghost use Rattle.sb_expr.specs.Meaning.{meant, Gives, GivesAs};
-ghost use Rattle.sb_expr.specs.Readers as expr;
+ghost use Rattle.sb_lexicon.specs.Lexicon as lex;
+ghost use Rattle.sb_lexicon.specs.Meaning.{meant, Gives, GivesAs};
+ghost use Rattle.sb_lexicon.specs.Tokens as expr;
 ghost use Rattle.sb_parse.specs.Parser.{at_next, taken, token as next};
 ghost use Rattle.sb_sal.specs.Meaning.{plain_head};
 ghost use Rattle.sb_sal.specs.Notes as notes;
 ghost use Rattle.sb_sal.specs.Readers as reader;
 ghost use Rattle.sb_sal.specs.Spellings as spec;
-ghost use Rattle.sb_tree.specs.Signs.{text_at};
+ghost use Rattle.sb_sign.specs.Signs.{text_at};
 
 use crate::bearer::Bearer;
 use crate::spelling::{Arguments, arguments_in, looks_like_note, may_stand_by};
 use sb_base::{Name, Names, Place, Token};
-use sb_expr::{
-    Lexicon, Read, ReadFault, begins_expr, binary_at, is_assignment, is_mark, is_suffix,
-    is_type_name, name_of,
+use sb_expr::begins_expr;
+use sb_lexicon::{
+    Lexicon, Read, ReadFault, binary_at, is_assignment, is_mark, is_suffix, is_type_name, name_of,
 };
-use sb_tree::{Mark, mark_of};
+use sb_sign::{Mark, mark_of};
 
 /// The name of an annotation, where it stands, and which arguments it takes.
-#[derive(Clone, Copy, Debug)]
+#[derive(Clone, Copy)]
 pub(crate) struct Head {
     pub(crate) name: Name,
     pub(crate) place: Place,
@@ -193,7 +193,7 @@ pub fn is_misplaced_next(lexicon: &Lexicon, bearer: Bearer, tokens: &[Token]) ->
     }
 }
 
-/// Whether an annotation with arguments comes next, which may be at most `below` deep, and there is no room for any.
+/// Whether an annotation with arguments comes next and its parts, at most `below` deep, have no room.
 pub(crate) fn is_deep_next(lexicon: &Lexicon, below: u32, tokens: &[Token]) -> bool
     ensures { result ≡ at_next (λ t. expr.is_zero below && (spec.is_listed (meant lexicon.now) t && not (reader.is_bare (meant lexicon.now) t))) tokens.now }
 {

@@ -3,7 +3,6 @@
 
 mod arguments;
 mod bearer;
-mod entry;
 mod lexemes;
 mod locations;
 mod nested;
@@ -11,7 +10,6 @@ mod spelling;
 mod trees;
 
 pub use bearer::Bearer;
-pub use entry::notes;
 pub use lexemes::{
     begins_note, is_bare, is_listed, is_listed_next, is_misplaced_next, is_note_next, is_unlisted,
     is_unlisted_next, may_stand,

@@ -1,8 +1,8 @@
 //! What an annotation can be moved to: a parameter, what it points to, a member of that, or the result.
 ghost use Rattle.std.specs.Prelude.{◌≡◌, ◌≤◌, IfOk};
 ghost use Rattle.sb_parse.specs.Parser.{taken};
-ghost use Rattle.sb_expr.specs.Meaning.{meant};
-ghost use Rattle.sb_expr.specs.Readers as expr;
+ghost use Rattle.sb_lexicon.specs.Meaning.{meant};
+ghost use Rattle.sb_lexicon.specs.Tokens as expr;
 ghost use Rattle.sb_sal.specs.Meaning.{IsLocationKnown, ReadsLocation};
 ghost use Rattle.sb_sal.specs.Parts as part;
 ghost use Rattle.sb_sal.specs.Readers as spec;
@@ -14,11 +14,12 @@ use crate::lexemes::{
 };
 use crate::trees::Location;
 use sb_base::Token;
-use sb_expr::{
+use sb_lexicon::{
     Lexicon, Read, ReadFault, Reason, is_keyword_next, is_mark_next, take_keyword, take_mark,
     take_member,
 };
-use sb_tree::{Expr, Keyword, Mark, UnaryOp};
+use sb_sign::{Keyword, Mark};
+use sb_tree::{Expr, UnaryOp};
 use std::alloc::Global;
 
 /// A location of so many tokens, unless the expression goes on.
@@ -83,18 +84,12 @@ fn field<'a>(alloc: Global, lexicon: &Lexicon, of: Location<'a>) -> Result<Locat
     ensures read { ReadsLocation (part.field (meant lexicon.now) (plain_expr of.entry.tree) of.entry.rest.now) result }
     ensures depth { IfOk result (λ l. l.depth ≡ 2) }
 {
+    let parameter = Box::new(alloc, of.tree)?;
     let arrow = take_mark(lexicon, Mark::Arrow, of.rest)?;
     let name = take_member(lexicon, arrow.rest)?;
     let (member, member_place) = name.value;
     let found = Location {
-        tree: Expr::member(
-            alloc,
-            of.tree,
-            true,
-            member,
-            member_place,
-            arrow.value.place,
-        )?,
+        tree: Expr::member(parameter, true, member, member_place, arrow.value.place),
         depth: of.depth + 1,
         rest: name.rest,
     };
@@ -135,8 +130,9 @@ fn target<'a>(
     let star = take_mark(lexicon, Mark::Star, tokens)?;
     if is_place_name_next(lexicon, star.rest) {
         let named = take_named(lexicon, star.rest)?;
+        let parameter = Box::new(alloc, named.tree)?;
         let found = Location {
-            tree: Expr::unary(alloc, UnaryOp::Deref, named.tree, star.value.place)?,
+            tree: Expr::unary(UnaryOp::Deref, parameter, star.value.place),
             depth: named.depth + 1,
             rest: named.rest,
         };

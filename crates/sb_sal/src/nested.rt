@@ -1,7 +1,7 @@
 //! Annotations, which may stand inside one another, and lists of them.
 ghost use Rattle.std.specs.Prelude.{◌≡◌, ◌≤◌, ◌<◌, ◌+◌, IfOk};
 ghost use Rattle.sb_parse.specs.Parser.{looped};
-ghost use Rattle.sb_expr.specs.Meaning.{meant, IsFault};
+ghost use Rattle.sb_lexicon.specs.Meaning.{meant, IsFault};
 ghost use Rattle.sb_sal.specs.Meaning.{noted, plain_head, AreNotesKnown, ReadsArgument, ReadsArguments, ReadsNote, ReadsNotes};
 ghost use Rattle.sb_sal.specs.Parts as part;
 ghost use Rattle.sb_sal.specs.Readers as spec;
@@ -22,8 +22,9 @@ use crate::trees::{
     pair,
 };
 use sb_base::Token;
-use sb_expr::{Lexicon, ReadFault, Reason, is_mark_next, take_mark};
-use sb_tree::{Mark, Note};
+use sb_lexicon::{Lexicon, ReadFault, Reason, is_mark_next, take_mark};
+use sb_sign::Mark;
+use sb_tree::Note;
 use std::alloc::Global;
 
 /// The refusal of an annotation for which there is no room.

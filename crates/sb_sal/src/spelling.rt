@@ -5,7 +5,7 @@ ghost use Rattle.sb_sal.specs.Spellings as spec;
 use crate::bearer::Bearer;
 
 /// What stands in the parentheses behind an annotation's name.
-#[derive(Clone, Copy, Debug, PartialEq, Eq)]
+#[derive(Clone, Copy)]
 pub enum Arguments {
     /// There are no parentheses.
     Nothing,

@@ -92,7 +92,7 @@ pub(crate) fn note_argument<'a>(
     ensures rest { IfOk result (λ a. a.rest.now ≡ found.entry.rest.now) }
 {
     Ok(Argument {
-        tree: Arg::annotation(alloc, found.tree)?,
+        tree: Arg::annotation(Box::new(alloc, found.tree)?),
         depth: found.depth,
         rest: found.rest,
     })

@@ -1,8 +1,10 @@
 use Rattle.std.proofs.Common.{◌≡◌, ◌≤◌, ◌+◌, ◌*◌, ◌-◌, length, suc}
 use Rattle.sb_parse.specs.Parser.{loop}
 use Rattle.sb_tree.specs.Plain.{plain_exprs}
-use Rattle.sb_expr.specs.Meaning.{meant, nested, piecewise, plain_found, plain_pieces, IsKnown, IsListKnown, IsDeep, IsSized}
+use Rattle.sb_expr.specs.Meaning.{nested, piecewise, plain_found, plain_pieces, IsKnown, IsListKnown, IsDeep, IsSized}
+use Rattle.sb_lexicon.specs.Meaning.{meant}
 use Rattle.sb_expr.specs.Readers as spec
+use Rattle.sb_lexicon.specs.Tokens as lexeme
 use Rattle.sb_expr.proofs.+expression.Given as goal
 
 abbrev pub decreases-expressions::within : goal.decreases-expressions::within
@@ -141,8 +143,8 @@ abbrev pub invariant-postfix::suffixes-loop-turn : goal.invariant-postfix::suffi
 invariant-postfix::suffixes-loop-turn l =
     let w = meant l.fn.lexicon in
     let turn = nested spec.suffixed w l.fn.below in
-    (loop (spec.is_suffix w) turn (length l.fn.first.rest.now) (plain_found l.fn.first) l.fn.first.rest.now
-    ≡ loop (spec.is_suffix w) turn (l.most - l._turn) (plain_found l.found) l.found.rest.now)
+    (loop (lexeme.is_suffix w) turn (length l.fn.first.rest.now) (plain_found l.fn.first) l.fn.first.rest.now
+    ≡ loop (lexeme.is_suffix w) turn (l.most - l._turn) (plain_found l.found) l.found.rest.now)
     × IsKnown l.found
     × (l.found.depth ≤ l.fn.below + 1)
 
@@ -150,8 +152,8 @@ abbrev pub invariant-expressions::operators-loop-turn : goal.invariant-expressio
 invariant-expressions::operators-loop-turn l =
     let w = meant l.fn.lexicon in
     let turn = nested spec.operated w l.fn.below l.fn.tighter in
-    (loop (spec.is_operator w (suc l.fn.tighter)) turn (length l.fn.first.rest.now) (plain_found l.fn.first) l.fn.first.rest.now
-    ≡ loop (spec.is_operator w (suc l.fn.tighter)) turn (l.most - l._turn) (plain_found l.found) l.found.rest.now)
+    (loop (lexeme.is_operator w (suc l.fn.tighter)) turn (length l.fn.first.rest.now) (plain_found l.fn.first) l.fn.first.rest.now
+    ≡ loop (lexeme.is_operator w (suc l.fn.tighter)) turn (l.most - l._turn) (plain_found l.found) l.found.rest.now)
     × IsKnown l.found
     × (l.found.depth ≤ l.fn.below + 1)
 
@@ -159,8 +161,8 @@ abbrev pub invariant-expressions::commas-loop-turn : goal.invariant-expressions:
 invariant-expressions::commas-loop-turn l =
     let w = meant l.fn.lexicon in
     let turn = nested spec.followed w l.fn.below in
-    (loop (spec.is_comma w) turn (length l.fn.first.rest.now) (plain_found l.fn.first) l.fn.first.rest.now
-    ≡ loop (spec.is_comma w) turn (l.most - l._turn) (plain_found l.found) l.found.rest.now)
+    (loop (lexeme.is_comma w) turn (length l.fn.first.rest.now) (plain_found l.fn.first) l.fn.first.rest.now
+    ≡ loop (lexeme.is_comma w) turn (l.most - l._turn) (plain_found l.found) l.found.rest.now)
     × IsKnown l.found
     × (l.found.depth ≤ l.fn.below + 1)
 
@@ -168,8 +170,8 @@ abbrev pub invariant-postfix::more_arguments-loop-turn : goal.invariant-postfix:
 invariant-postfix::more_arguments-loop-turn l =
     let w = meant l.fn.lexicon in
     let turn = nested spec.next_argument w l.fn.below in
-    (loop (spec.is_comma w) turn (length l.fn.first.rest.now) (plain_exprs l.fn.first.list.items) l.fn.first.rest.now
-    ≡ loop (spec.is_comma w) turn (l.most - l._turn) (plain_exprs l.found.list.items) l.found.rest.now)
+    (loop (lexeme.is_comma w) turn (length l.fn.first.rest.now) (plain_exprs l.fn.first.list.items) l.fn.first.rest.now
+    ≡ loop (lexeme.is_comma w) turn (l.most - l._turn) (plain_exprs l.found.list.items) l.found.rest.now)
     × IsListKnown l.found
     × (l.found.depth ≤ l.fn.below)
 
@@ -177,7 +179,7 @@ abbrev pub invariant-declarators::arrays-loop-turn : goal.invariant-declarators:
 invariant-declarators::arrays-loop-turn l =
     let w = meant l.fn.lexicon in
     let turn = piecewise spec.arrayed w l.fn.below l.fn.room in
-    (loop (spec.is_open_bracket w) turn (length l.fn.first.rest.now) (plain_pieces l.fn.first.list.items) l.fn.first.rest.now
-    ≡ loop (spec.is_open_bracket w) turn (l.most - l._turn) (plain_pieces l.found.list.items) l.found.rest.now)
+    (loop (lexeme.is_open_bracket w) turn (length l.fn.first.rest.now) (plain_pieces l.fn.first.list.items) l.fn.first.rest.now
+    ≡ loop (lexeme.is_open_bracket w) turn (l.most - l._turn) (plain_pieces l.found.list.items) l.found.rest.now)
     × IsDeep l.found
     × IsSized l.fn.below (l.fn.room + 1) l.found

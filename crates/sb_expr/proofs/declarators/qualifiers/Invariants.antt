@@ -1,8 +1,8 @@
 use Rattle.std.proofs.Common.{◌≡◌, ◌-◌, ◌<◌, length, true, false}
 use Rattle.sb_parse.specs.Parser.{loop}
-use Rattle.sb_expr.specs.Meaning.{meant}
+use Rattle.sb_lexicon.specs.Meaning.{meant}
 use Rattle.sb_expr.specs.Parts.{qualifier}
-use Rattle.sb_expr.specs.Readers.{is_qualifier}
+use Rattle.sb_lexicon.specs.Tokens.{is_qualifier}
 use Rattle.sb_expr.proofs.declarators.qualifiers.Given as goal
 
 abbrev pub invariant-loop-turn : goal.invariant-loop-turn

@@ -1,5 +1,5 @@
 use Rattle.std.proofs.Common.{◌<◌, arith}
-use Rattle.sb_expr.specs.Meaning.{meant}
+use Rattle.sb_lexicon.specs.Meaning.{meant}
 use Rattle.sb_sal.proofs.Depths.{one_note, no_notes}
 use Rattle.sb_sal.proofs.nested.+annotation.Goals as goal
 

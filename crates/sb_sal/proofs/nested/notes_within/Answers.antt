@@ -1,7 +1,7 @@
 use Rattle.std.proofs.Common.{[], sym, length}
 use Rattle.std.proofs.lemmas.Result.{err_from_is_err_and}
 use Rattle.sb_tree.specs.Plain.{plain_notes}
-use Rattle.sb_expr.proofs.Loops.{loop_ends, loop_over, loop_goes, loop_faults}
+use Rattle.sb_lexicon.proofs.Loops.{loop_ends, loop_over, loop_goes, loop_faults}
 use Rattle.sb_sal.proofs.nested.notes_within.Goals as goal
 
 pub returns-then-not-is_note_next-clause-read : goal.returns-then-not-is_note_next-clause-read

@@ -1,7 +1,7 @@
 use Rattle.std.proofs.Common.{◌≡◌, ◌≤◌, ◌-◌, [], length}
 use Rattle.sb_parse.specs.Parser.{loop}
 use Rattle.sb_tree.specs.Plain.{plain_notes}
-use Rattle.sb_expr.specs.Meaning.{meant}
+use Rattle.sb_lexicon.specs.Meaning.{meant}
 use Rattle.sb_sal.specs.Meaning.{AreNotesKnown}
 use Rattle.sb_sal.specs.Readers.{next_note}
 use Rattle.sb_sal.specs.Spellings.{begins_note, may_stand}

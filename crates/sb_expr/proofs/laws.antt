@@ -1,0 +1,12 @@
+pub mod Arguments
+pub mod Assignments
+pub mod Casts
+pub mod Conditionals
+pub mod Declarators
+pub mod Expressions
+pub mod Infixes
+pub mod Parenthesized
+pub mod Postfix
+pub mod Prefix
+pub mod Primary
+pub mod TypeNames

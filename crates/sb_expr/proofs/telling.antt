@@ -1,0 +1,4 @@
+pub mod EachDepth
+pub mod Expressions
+pub mod Reasons
+pub mod TypeNames

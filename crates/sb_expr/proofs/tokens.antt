@@ -1,0 +1,4 @@
+pub mod Begins
+pub mod Bracketed
+pub mod Ends
+pub mod More

@@ -1,0 +1,9 @@
+pub mod Lexicon
+pub mod Words
+pub mod Tokens
+pub mod Specifiers
+pub mod SpecifierReaders
+pub mod Parts
+pub mod Meaning
+pub mod Outcomes
+pub mod Reasons
