@@ -2,14 +2,14 @@
 use Rattle.std.proofs.Common.{◌≡◌, Bool, true, false, List, if◌then◌else◌}
 use Rattle.sb_base.specs.declared.tokens.Token.{Token}
 use Rattle.sb_parse.specs.Parser.{Parser, at_next, choose, refuse}
-use Rattle.sb_expr.specs.declared.reading.ReadFault.{ReadFault}
-use Rattle.sb_expr.specs.Lexicon.{Lexicon}
-use Rattle.sb_expr.specs.Meaning.{IsFault}
-use Rattle.sb_expr.specs.Readers.{unexpected}
-use Rattle.sb_expr.proofs.Loops.{fault_first}
-use Rattle.sb_declare.specs.declared.seat.Seat.{Seat}
-use Rattle.sb_declare.specs.Readers.{barred}
-use Rattle.sb_declare.proofs.BarringLaws.{barred_then}
+use Rattle.sb_lexicon.specs.declared.reading.ReadFault.{ReadFault}
+use Rattle.sb_lexicon.specs.Lexicon.{Lexicon}
+use Rattle.sb_lexicon.specs.Meaning.{IsFault}
+use Rattle.sb_lexicon.specs.Tokens.{unexpected}
+use Rattle.sb_lexicon.proofs.Loops.{fault_first}
+use Rattle.sb_specifier.specs.declared.seat.Seat.{Seat}
+use Rattle.sb_specifier.specs.Readers.{barred}
+use Rattle.sb_specifier.proofs.laws.Barring.{barred_then}
 
 pub barred_for : (A B : Type 0) (w : Lexicon) (seat : Seat) (ts : List Token) (fault : ReadFault) → IsFault (barred {A = A} w seat ts) fault → IsFault (barred {A = B} w seat ts) fault
 barred_for A B w seat ts fault h = rw (barred_then w seat {A = A} (λ a. refuse {A = B} unexpected) ts) at (fault_first (barred {A = A} w seat ts) (λ a. refuse {A = B} unexpected) fault h)

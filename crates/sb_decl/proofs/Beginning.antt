@@ -5,20 +5,20 @@ use Rattle.std.specs.Option.{option_map_or}
 use Rattle.sb_base.specs.declared.interning.Name.{Name}
 use Rattle.sb_base.specs.declared.tokens.PpKind.TheVariants as kind
 use Rattle.sb_base.specs.declared.tokens.Token.{Token}
-use Rattle.sb_tree.specs.declared.sign.Keyword.TheVariants as keyword
+use Rattle.sb_sign.specs.declared.sign.Keyword.TheVariants as keyword
 use Rattle.sb_tree.specs.declared.syntax.Storage.TheVariants as storage
 use Rattle.sb_tree.specs.Plain.{arg_list, note_list}
 use Rattle.sb_tree.specs.Trees as tree
-use Rattle.sb_tree.specs.Trees.{ArgTree, NoteTree, TypeTree, DeclTree, depth_of_args, depth_of_note, depth_of_notes, depth_of_decls}
-use Rattle.sb_expr.specs.declared.words.Signedness.TheVariants as sign_word
-use Rattle.sb_expr.specs.declared.words.Length.TheVariants as length_word
-use Rattle.sb_expr.specs.declared.words.Kind.TheVariants as kind_word
-use Rattle.sb_expr.specs.Lexicon.{Lexicon, is_type_name, is_type_keyword}
-use Rattle.sb_expr.specs.Reads.{nowhere}
-use Rattle.sb_expr.specs.Words.{Words, Whole}
-use Rattle.sb_expr.proofs.Lexemes.{name_no_keyword, int_token, int_token_is, close_token, close_token_is}
-use Rattle.sb_expr.proofs.Depths.{within_room}
-use Rattle.sb_expr.proofs.Ways.{and_first, and_second}
+use Rattle.sb_tree.specs.Trees.{NoteTree, TypeTree, depth_of_args, depth_of_note}
+use Rattle.sb_lexicon.specs.declared.words.Signedness.TheVariants as sign_word
+use Rattle.sb_lexicon.specs.declared.words.Length.TheVariants as length_word
+use Rattle.sb_lexicon.specs.declared.words.Kind.TheVariants as kind_word
+use Rattle.sb_lexicon.specs.Lexicon.{Lexicon, is_type_name, is_type_keyword}
+use Rattle.sb_lexicon.specs.Outcomes.{nowhere}
+use Rattle.sb_lexicon.specs.Words.{Words, Whole}
+use Rattle.sb_lexicon.proofs.Lexemes.{name_no_keyword, int_token, int_token_is, close_token, close_token_is}
+use Rattle.sb_lexicon.proofs.Depths.{within_room}
+use Rattle.sb_parse.proofs.Ways.{and_first, and_second}
 use Rattle.sb_sal.specs.declared.bearer.Bearer.TheVariants as bearer
 use Rattle.sb_sal.specs.declared.spelling.Arguments.{Arguments}
 use Rattle.sb_sal.specs.declared.spelling.Arguments.TheVariants as arguments
@@ -30,12 +30,13 @@ use Rattle.sb_sal.proofs.Annotations.{note_at}
 use Rattle.sb_sal.proofs.Filled.{anywhere_filled}
 use Rattle.sb_sal.proofs.Noting.{some_note, enclosed}
 use Rattle.sb_sal.proofs.Tokens.{open_token, open_token_is, has_arguments_of, bare_by}
-use Rattle.sb_declare.specs.declared.seat.Seat.TheVariants as seat
-use Rattle.sb_declare.specs.Specified.{reading, Specified, unspecified, saying}
-use Rattle.sb_declare.specs.Declaration.{is_word, is_defined, no_specifiers, more_specifiers, may_stand_there, is_pardoned, IsDeclaration, is_nameless}
+use Rattle.sb_specifier.specs.declared.seat.Seat.TheVariants as seat
+use Rattle.sb_specifier.specs.Specified.{reading, Specified, unspecified, saying}
+use Rattle.sb_specifier.specs.Declaration.{is_word, is_defined, no_specifiers, more_specifiers}
+use Rattle.sb_declare.specs.Declaration.{may_stand_there, is_pardoned, IsDeclaration, is_nameless}
 use Rattle.sb_declare.specs.Reads.{FitsDeclaration}
-use Rattle.sb_declare.specs.Readers.{Declarations, is_pardon, is_name, is_specifier_word, is_storage_keyword, begins_declaration}
-use Rattle.sb_declare.proofs.Lexing.{name_is}
+use Rattle.sb_specifier.specs.Readers.{Declarations, is_pardon, is_name, is_specifier_word, is_storage_keyword, begins_declaration}
+use Rattle.sb_specifier.proofs.laws.Names.{name_is}
 use Rattle.sb_decl.specs.Readers.{names_declaration, room_for}
 use Rattle.sb_decl.proofs.Valued.{semicolon_token, semicolon_token_is}
 

@@ -9,27 +9,27 @@ use Rattle.sb_parse.specs.Parser.{at_next, never, ◌>>=◌, pure, token, looped
 use Rattle.sb_parse.specs.Lawful.{Lawful, OnHead, IsEmpty, IsToken, Joined, Opened, Mapped, Turns, over, turn}
 use Rattle.sb_parse.proofs.Joining.{via, map_of, nothing, in_order, one_token}
 use Rattle.sb_parse.proofs.Heads.{opened, head_via, head_of_append}
-use Rattle.sb_tree.specs.declared.sign.Keyword.TheVariants as keyword
-use Rattle.sb_tree.specs.declared.sign.Mark.TheVariants as mark
+use Rattle.sb_sign.specs.declared.sign.Keyword.TheVariants as keyword
+use Rattle.sb_sign.specs.declared.sign.Mark.TheVariants as mark
 use Rattle.sb_tree.specs.Plain.{stmt_list}
-use Rattle.sb_tree.specs.Signs as sign
+use Rattle.sb_sign.specs.Signs as sign
 use Rattle.sb_tree.specs.Trees as tree
-use Rattle.sb_tree.specs.Trees.{ExprTree, StmtTree, depth_of_stmt, depth_of_stmts}
+use Rattle.sb_tree.specs.Trees.{StmtTree, depth_of_stmt, depth_of_stmts}
 use Rattle.sb_expr.specs.Expression.{Sequence}
-use Rattle.sb_expr.specs.Lexicon.{Lexicon}
-use Rattle.sb_expr.specs.Readers.{unexpected, is_open_brace, begins_expr}
-use Rattle.sb_expr.specs.Reads.{nowhere}
-use Rattle.sb_expr.proofs.Begins.{expr_begins}
-use Rattle.sb_expr.proofs.Lexemes.{same_mark, same_keyword, mark_is, mark_no_keyword}
-use Rattle.sb_expr.proofs.Ways.{goes_on_where, and_fails, or_first, or_second, turned_once_more}
-use Rattle.sb_sal.proofs.Partly.{opened_head}
-use Rattle.sb_declare.specs.declared.seat.Seat.TheVariants as seat
-use Rattle.sb_declare.specs.Specified.{reading}
+use Rattle.sb_lexicon.specs.Lexicon.{Lexicon}
+use Rattle.sb_lexicon.specs.Tokens.{unexpected, is_open_brace, begins_expr}
+use Rattle.sb_lexicon.specs.Outcomes.{nowhere}
+use Rattle.sb_expr.proofs.tokens.Begins.{expr_begins}
+use Rattle.sb_lexicon.proofs.Lexemes.{same_mark, same_keyword, mark_is, mark_no_keyword}
+use Rattle.sb_parse.proofs.Ways.{goes_on_where, and_fails, or_first, or_second, turned_once_more}
+use Rattle.sb_parse.proofs.Partly.{opened_head}
+use Rattle.sb_specifier.specs.declared.seat.Seat.TheVariants as seat
+use Rattle.sb_specifier.specs.Specified.{reading}
 use Rattle.sb_declare.specs.Declaration.{IsDeclaration, is_nameless, is_declaration}
-use Rattle.sb_declare.specs.Readers.{Declarations, is_close_brace, is_name, begins_declaration}
-use Rattle.sb_declare.proofs.Heads.{declaration_begins}
-use Rattle.sb_declare.proofs.Lexing.{close_brace_token, close_brace_token_is}
-use Rattle.sb_declare.proofs.Turning.{turning_from}
+use Rattle.sb_specifier.specs.Readers.{Declarations, is_close_brace, is_name, begins_declaration}
+use Rattle.sb_declarator.proofs.laws.Heads.{declaration_begins}
+use Rattle.sb_specifier.proofs.laws.Names.{close_brace_token, close_brace_token_is}
+use Rattle.sb_parse.proofs.Turning.{turning_from}
 use Rattle.sb_decl.specs.Readers.{Body, Parts, block}
 use Rattle.sb_decl.specs.Statement.{takes_else, IsEvaluated, is_evaluated, IsDeclared, is_declared, IsStatement, IsBlock, is_braced, AreItems, no_items, a_statement, some_declaration}
 use Rattle.sb_decl.specs.Statement as grammar

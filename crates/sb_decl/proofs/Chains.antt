@@ -7,21 +7,21 @@ use Rattle.sb_base.specs.declared.tokens.PpKind.TheVariants as kind
 use Rattle.sb_base.specs.declared.tokens.Token.{Token}
 use Rattle.sb_parse.specs.Parser.{Parser, at_next, choose}
 use Rattle.sb_parse.specs.Lawful.{OnHead, Either}
-use Rattle.sb_tree.specs.declared.sign.Keyword.{Keyword}
-use Rattle.sb_tree.specs.declared.sign.Keyword.TheVariants as keyword
-use Rattle.sb_tree.specs.declared.sign.Mark.{Mark}
-use Rattle.sb_tree.specs.declared.sign.Mark.TheVariants as mark
-use Rattle.sb_tree.specs.Signs as sign
+use Rattle.sb_sign.specs.declared.sign.Keyword.{Keyword}
+use Rattle.sb_sign.specs.declared.sign.Keyword.TheVariants as keyword
+use Rattle.sb_sign.specs.declared.sign.Mark.{Mark}
+use Rattle.sb_sign.specs.declared.sign.Mark.TheVariants as mark
+use Rattle.sb_sign.specs.Signs as sign
 use Rattle.sb_tree.specs.Trees.{Number, Text}
-use Rattle.sb_expr.specs.Lexicon.{Lexicon, is_mark, is_keyword, name_of, is_type_name, is_type_keyword, prefix_at, step_at, operand_of, named_operand, by_mark, is_among}
-use Rattle.sb_expr.specs.Readers.{is_open, is_prefix, is_step, is_size_of, begins_expr}
-use Rattle.sb_expr.proofs.Lexemes.{not_same, keyword_is, mark_is, mark_alone, mark_no_keyword, keyword_no_mark}
-use Rattle.sb_expr.proofs.Ways.{or_second}
+use Rattle.sb_lexicon.specs.Lexicon.{Lexicon, is_mark, is_keyword, name_of, is_type_name, is_type_keyword, prefix_at, step_at, operand_of, named_operand, by_mark, is_among}
+use Rattle.sb_lexicon.specs.Tokens.{is_open, is_prefix, is_step, is_size_of, begins_expr}
+use Rattle.sb_lexicon.proofs.Lexemes.{not_same, keyword_is, mark_is, mark_alone, mark_no_keyword, keyword_no_mark}
+use Rattle.sb_parse.proofs.Ways.{or_second}
 use Rattle.sb_sal.specs.Spellings.{begins_note, looks_like_note, word_of}
-use Rattle.sb_sal.proofs.Partly.{Partly, choosing}
-use Rattle.sb_declare.specs.Specified.{reading}
-use Rattle.sb_declare.specs.Readers.{is_name, is_storage_keyword, is_specifier_word, begins_declaration}
-use Rattle.sb_declare.proofs.Lexing.{mark_no_name, mark_begins_none}
+use Rattle.sb_parse.proofs.Partly.{Partly, choosing}
+use Rattle.sb_specifier.specs.Specified.{reading}
+use Rattle.sb_specifier.specs.Readers.{is_name, is_storage_keyword, is_specifier_word, begins_declaration}
+use Rattle.sb_specifier.proofs.laws.Names.{mark_no_name, mark_begins_none}
 
 -- ---- keywords and punctuators
 

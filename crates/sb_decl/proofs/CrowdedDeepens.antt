@@ -6,16 +6,16 @@ use Rattle.sb_base.specs.declared.interning.Name.{Name}
 use Rattle.sb_base.specs.declared.tokens.Token.{Token}
 use Rattle.sb_parse.specs.Parser.{Parser, done, at_next}
 use Rattle.sb_tree.specs.Plain.{arg_list}
-use Rattle.sb_tree.specs.declared.sign.Keyword.{Keyword}
-use Rattle.sb_tree.specs.declared.sign.Keyword.TheVariants as keyword
-use Rattle.sb_tree.specs.Signs as sign
+use Rattle.sb_sign.specs.declared.sign.Keyword.{Keyword}
+use Rattle.sb_sign.specs.declared.sign.Keyword.TheVariants as keyword
+use Rattle.sb_sign.specs.Signs as sign
 use Rattle.sb_tree.specs.Trees as tree
-use Rattle.sb_tree.specs.Trees.{NoteTree, TypeTree, depth_of_args, depth_of_note, depth_of_notes}
-use Rattle.sb_expr.specs.Lexicon.{Lexicon, is_among, name_of, is_type_name}
+use Rattle.sb_tree.specs.Trees.{NoteTree, TypeTree, depth_of_args, depth_of_note}
+use Rattle.sb_lexicon.specs.Lexicon.{Lexicon, is_among, name_of, is_type_name}
 use Rattle.sb_expr.specs.Expression.{no_qualifiers}
-use Rattle.sb_expr.specs.Words.{Whole}
-use Rattle.sb_expr.specs.Readers.{is_open, is_star}
-use Rattle.sb_expr.proofs.Lexemes.{close_token, close_token_is}
+use Rattle.sb_lexicon.specs.Words.{Whole}
+use Rattle.sb_lexicon.specs.Tokens.{is_open, is_star}
+use Rattle.sb_lexicon.proofs.Lexemes.{close_token, close_token_is}
 use Rattle.sb_sal.specs.declared.bearer.Bearer.TheVariants as bearer
 use Rattle.sb_sal.specs.declared.spelling.Arguments.{Arguments}
 use Rattle.sb_sal.specs.declared.spelling.Arguments.TheVariants as arguments
@@ -30,14 +30,14 @@ use Rattle.sb_sal.proofs.ExprDeepening.{past_by_text}
 use Rattle.sb_sal.proofs.Filled.{anywhere_filled, filled}
 use Rattle.sb_sal.proofs.Noting.{enclosed}
 use Rattle.sb_sal.proofs.Tokens.{open_token, open_token_is, has_arguments_of, bare_by, bare_listed}
-use Rattle.sb_declare.specs.declared.seat.Seat.TheVariants as seat
-use Rattle.sb_declare.specs.Specified.{reading, Specified, unspecified, saying, constantly, storage_of, base_of}
-use Rattle.sb_declare.specs.Declaration.{Begins, IsSpecifier, is_constant, is_restricted, is_inline, is_stored, is_defined, no_specifiers, more_specifiers}
-use Rattle.sb_declare.specs.Declaration.{may_stand_there, IsDeclarator, is_direct, is_pointer, is_name, is_in_parentheses, has_name, IsDeclaration}
-use Rattle.sb_declare.specs.Declaration.{is_nameless, is_declaration, first_declared, is_declared, no_initialiser, declared_by, declaration_of, functions_in, place_of_base}
-use Rattle.sb_declare.proofs.BarredWider.{is_word}
+use Rattle.sb_specifier.specs.declared.seat.Seat.TheVariants as seat
+use Rattle.sb_specifier.specs.Specified.{reading, Specified, unspecified, saying, constantly, storage_of, base_of}
+use Rattle.sb_declare.specs.Declaration.{Begins, may_stand_there, IsDeclaration, is_nameless, is_declaration, first_declared, is_declared, no_initialiser, declared_by, declaration_of}
+use Rattle.sb_specifier.specs.Declaration.{IsSpecifier, is_constant, is_restricted, is_inline, is_stored, is_defined, no_specifiers, more_specifiers, IsDeclarator, is_direct, is_pointer, is_name, is_in_parentheses, has_name}
+use Rattle.sb_declare.proofs.widening.Barred.{is_word}
 use Rattle.sb_decl.proofs.Valued.{semicolon_token, semicolon_token_is}
-use Rattle.sb_declare.specs.Readers.{Declarations, Declarator, is_semicolon, is_storage_keyword}
+use Rattle.sb_specifier.specs.Readers.{Declarations, Declarator, is_semicolon, is_storage_keyword, place_of_base}
+use Rattle.sb_declare.specs.Readers.{functions_in}
 
 -- ---- annotations that begin with a listed name
 

@@ -6,18 +6,20 @@ use Rattle.sb_base.specs.declared.tokens.Token.{Token}
 use Rattle.sb_parse.specs.Parser.{Outcome, Parser, done, stop, at_next, and_then, ◌>>=◌, pure, taken_as, choose, refuse, loop}
 use Rattle.sb_tree.specs.Trees as tree
 use Rattle.sb_tree.specs.Trees.{NoteTree, TypeTree}
-use Rattle.sb_expr.specs.Lexicon.{Lexicon}
-use Rattle.sb_expr.specs.Readers.{unexpected, too_deep, bad_arguments, is_zero, is_open}
-use Rattle.sb_expr.proofs.Ways.{and_fails}
+use Rattle.sb_lexicon.specs.Lexicon.{Lexicon}
+use Rattle.sb_lexicon.specs.Tokens.{unexpected, too_deep, bad_arguments, is_zero, is_open}
+use Rattle.sb_parse.proofs.Ways.{and_fails}
 use Rattle.sb_sal.specs.declared.bearer.Bearer.TheVariants as bearer
 use Rattle.sb_sal.specs.Readers.{Head, is_bare, note, note_reader, next_note, notes_reader, in_parentheses, applied, bare, lacking}
 use Rattle.sb_sal.specs.Spellings.{begins_note, is_listed, is_unlisted, may_stand}
 use Rattle.sb_sal.proofs.Tokens.{listed_begins, has_arguments_of, bare_listed}
-use Rattle.sb_declare.specs.declared.seat.Seat.TheVariants as seat
-use Rattle.sb_declare.specs.Specified.{reading, Specified}
-use Rattle.sb_declare.specs.Readers as declaring
-use Rattle.sb_declare.specs.Readers.{Declarations, Opening, with_front, with_text, ends_nameless, barred, specifiers, opening, nameless, declarator_in, rest_of_declaration, declaration_at}
-use Rattle.sb_declare.proofs.BarredWider.{Begun, needs, in_notes, in_specifiers, begun}
+use Rattle.sb_specifier.specs.declared.seat.Seat.TheVariants as seat
+use Rattle.sb_specifier.specs.Specified.{reading, Specified}
+use Rattle.sb_specifier.specs.Readers as declaring
+use Rattle.sb_specifier.specs.Readers.{Declarations, ends_nameless, barred, specifiers}
+use Rattle.sb_declare.specs.Readers.{Opening, opening, nameless, declarator_in, rest_of_declaration, declaration_at}
+use Rattle.sb_parse.specs.Texts.{with_front, with_text}
+use Rattle.sb_declare.proofs.widening.Barred.{Begun, needs, in_notes, in_specifiers, begun}
 use Rattle.sb_decl.proofs.StatementStarts.{second_so}
 
 pub first_so : {A : Type 0} (b : Bool) (x y o : Outcome Token A) → b ≡ true → x ≡ o → (if b then x else y) ≡ o
@@ -119,7 +121,7 @@ module _ (texts : List (List ℕ)) (types : List Name) (below : ℕ) (part : ℕ
   specify notes = with_text (specifiers texts seat.Scope below part types) >>= (λ s. pure (opened notes s))
 
   abbrev pub go_on : Opening → Parser Token Declarations
-  go_on o = choose (ends_nameless w) (nameless texts below part o (declaring.place_of_base texts below part o.base))
+  go_on o = choose (ends_nameless w) (nameless texts below part o (declaring.place_of_base o.base))
       (declarator_in texts below part o o.specified.types o.base o.count >>= rest_of_declaration texts below part o)
 
   abbrev notes_of : Parser Token (List NoteTree)
@@ -149,9 +151,6 @@ module _ (A : Type 0) (texts : List (List ℕ)) (types : List Name) (k : ℕ) (p
 
   abbrev a_note : NoteTree
   a_note = tree.Note t.text tree.NoArgs t.place
-
-  abbrev read : Outcome Token (List NoteTree)
-  read = notes_reader (reading texts types) (suc k) (may_stand (reading texts types) bearer.Any) (t ∷ ts)
 
   pub behind_bare : Alike {A = A} (choose (is_open (reading texts types)) (refuse bad_arguments) (barred (reading texts types) seat.Scope) ts) (declaration_at texts (suc k) part types (t ∷ ts))
   unfolding behind_notes

@@ -2,13 +2,13 @@
 use Rattle.std.proofs.Common.{◌≡◌, ℕ, true, false, nat_lt, List, refl, subst}
 use Rattle.sb_base.specs.declared.tokens.Token.{Token}
 use Rattle.sb_parse.specs.Parser.{done, at_next, token}
-use Rattle.sb_expr.specs.declared.reading.ReadFault.{ReadFault}
-use Rattle.sb_expr.specs.Lexicon.{Lexicon}
-use Rattle.sb_expr.specs.Meaning.{IsFault}
-use Rattle.sb_expr.specs.Readers.{unexpected}
+use Rattle.sb_lexicon.specs.declared.reading.ReadFault.{ReadFault}
+use Rattle.sb_lexicon.specs.Lexicon.{Lexicon}
+use Rattle.sb_lexicon.specs.Meaning.{IsFault}
+use Rattle.sb_lexicon.specs.Tokens.{unexpected}
 use Rattle.sb_sal.specs.Spellings.{is_unlisted}
-use Rattle.sb_declare.specs.Readers.{is_name}
-use Rattle.sb_declare.specs.Specified.{reading}
+use Rattle.sb_specifier.specs.Readers.{is_name}
+use Rattle.sb_specifier.specs.Specified.{reading}
 use Rattle.sb_decl.specs.Meaning.{nested}
 use Rattle.sb_decl.specs.Readers as spec
 use Rattle.sb_decl.specs.Readers.{Body, room_for, crowded}

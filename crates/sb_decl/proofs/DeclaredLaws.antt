@@ -10,15 +10,17 @@ use Rattle.sb_parse.proofs.Heads.{headed}
 use Rattle.sb_tree.specs.Plain.{decl_list}
 use Rattle.sb_tree.specs.Trees as tree
 use Rattle.sb_tree.specs.Trees.{StmtTree, depth_of_stmt, depth_of_decls}
-use Rattle.sb_expr.proofs.Ways.{Refuses}
-use Rattle.sb_declare.specs.declared.seat.Seat.TheVariants as seat
-use Rattle.sb_declare.specs.Specified.{reading}
+use Rattle.sb_parse.proofs.Ways.{Refuses}
+use Rattle.sb_specifier.specs.declared.seat.Seat.TheVariants as seat
+use Rattle.sb_specifier.specs.Specified.{reading}
 use Rattle.sb_declare.specs.Reads.{FitsDeclaration}
-use Rattle.sb_declare.specs.Readers.{Declarations, with_front, with_text, begins_declaration, declaration_reader}
-use Rattle.sb_declare.proofs.BarringLaws.{barred_refuses}
-use Rattle.sb_declare.proofs.Choices.{refusing}
-use Rattle.sb_declare.proofs.Fronts.{WithText, text_law}
-use Rattle.sb_declare.proofs.Tying.{lawful_declaration, none_declared}
+use Rattle.sb_specifier.specs.Readers.{Declarations, begins_declaration}
+use Rattle.sb_parse.specs.Texts.{with_front, with_text}
+use Rattle.sb_declare.specs.Readers.{declaration_reader}
+use Rattle.sb_specifier.proofs.laws.Barring.{barred_refuses}
+use Rattle.sb_parse.proofs.Choices.{refusing}
+use Rattle.sb_parse.proofs.Texts.{WithText, text_law}
+use Rattle.sb_declare.proofs.laws.Readers.{lawful_declaration, none_declared}
 use Rattle.sb_decl.specs.Readers.{Body, Parts, first_place, declared, declaration_item}
 use Rattle.sb_decl.specs.Statement.{IsDeclared, is_declared}
 use Rattle.sb_decl.proofs.Laws.{more_body}

@@ -7,30 +7,32 @@ use Rattle.sb_parse.specs.Parser.{Parser, at_next, never, ◌>>=◌, choose}
 use Rattle.sb_parse.specs.Lawful.{Lawful, OnHead, Joined, Mapped, Either}
 use Rattle.sb_parse.proofs.Joining.{via, map_of, in_order}
 use Rattle.sb_parse.proofs.Heads.{choice_of, at_head}
-use Rattle.sb_tree.specs.declared.sign.Mark.{Mark}
-use Rattle.sb_tree.specs.declared.sign.Mark.TheVariants as mark
-use Rattle.sb_tree.specs.Signs as sign
+use Rattle.sb_sign.specs.declared.sign.Mark.{Mark}
+use Rattle.sb_sign.specs.declared.sign.Mark.TheVariants as mark
+use Rattle.sb_sign.specs.Signs as sign
 use Rattle.sb_tree.specs.Plain.{decl_list, note_list}
 use Rattle.sb_tree.specs.Trees as tree
-use Rattle.sb_tree.specs.Trees.{StmtTree, DeclTree, TypeTree, NoteTree, depth_of_stmt, depth_of_notes, depth_of_type, depth_of_decl, depth_of_decls}
-use Rattle.sb_expr.specs.Lexicon.{Lexicon, is_mark}
-use Rattle.sb_expr.specs.Readers.{is_open_brace}
+use Rattle.sb_tree.specs.Trees.{StmtTree, TypeTree, NoteTree, depth_of_stmt, depth_of_notes, depth_of_type, depth_of_decls}
+use Rattle.sb_lexicon.specs.Lexicon.{Lexicon, is_mark}
+use Rattle.sb_lexicon.specs.Tokens.{is_open_brace}
 use Rattle.sb_expr.specs.Pieces.{typed}
-use Rattle.sb_expr.proofs.Lexemes.{mark_is, mark_alone}
-use Rattle.sb_expr.proofs.Ways.{and_first, and_fails}
+use Rattle.sb_lexicon.proofs.Lexemes.{mark_is, mark_alone}
+use Rattle.sb_parse.proofs.Ways.{and_first, and_fails}
 use Rattle.sb_sal.specs.declared.bearer.Bearer.TheVariants as bearer
-use Rattle.sb_declare.specs.Specified.{reading, declares_function, bearer_of}
+use Rattle.sb_specifier.specs.Specified.{reading, declares_function, bearer_of}
 use Rattle.sb_declare.specs.Declaration.{IsJudged, no_initialiser, an_initialiser, declared_by, declaration_of}
 use Rattle.sb_declare.specs.Readers as declaring
-use Rattle.sb_declare.specs.Readers.{Declarator, Declarations, Opening, parts, ends_nameless, opening, nameless, declarator_in, rest_of_declaration}
-use Rattle.sb_declare.proofs.More.{is_suffix}
-use Rattle.sb_declare.proofs.Scoping.{FitsOpening, more_opening, FitsFirst, more_in, IsRest, an_end, another, FitsRest, FitsNameless}
-use Rattle.sb_declare.proofs.Scoped.{no_suffix, no_first, opening_law, first_law}
-use Rattle.sb_declare.proofs.Rests.{rest_law}
-use Rattle.sb_declare.proofs.Declaring.{nameless_head, opening_nameless, nameless_off, opening_first, rest_apart, After, to_declaration, from_declaration}
-use Rattle.sb_declare.proofs.Listed.{declared_is, declaration_is}
-use Rattle.sb_declare.proofs.Tying.{members_below, parameters_below}
-use Rattle.sb_declare.proofs.Typed.{typed_fits, fits_typed}
+use Rattle.sb_specifier.specs.Readers.{place_of_base, Declarator, Declarations, ends_nameless}
+use Rattle.sb_declare.specs.Readers.{Opening, opening, nameless, declarator_in}
+use Rattle.sb_declarator.specs.Readers.{parts}
+use Rattle.sb_specifier.proofs.laws.More.{is_suffix}
+use Rattle.sb_declare.proofs.laws.Scoping.{FitsOpening, more_opening, FitsFirst, more_in, IsRest, an_end, another, FitsRest, FitsNameless}
+use Rattle.sb_declare.proofs.laws.Scoped.{no_suffix, no_first, opening_law, first_law}
+use Rattle.sb_declare.proofs.laws.Rests.{rest_law}
+use Rattle.sb_declare.proofs.laws.Declarations.{nameless_head, opening_nameless, nameless_off, opening_first, rest_apart, After, to_declaration, from_declaration}
+use Rattle.sb_declare.proofs.laws.Listed.{declared_is, declaration_is}
+use Rattle.sb_declarator.proofs.laws.Parts.{members_below, parameters_below}
+use Rattle.sb_declarator.proofs.laws.Typed.{typed_fits, fits_typed}
 use Rattle.sb_decl.specs.Readers.{defines, defined, external_behind}
 use Rattle.sb_decl.specs.Statement as grammar
 use Rattle.sb_decl.specs.Statement.{IsBlock, IsExternal}
@@ -130,10 +132,10 @@ module _ (texts : List (List ℕ)) (below : ℕ) (some : 1 ≤ below) (types : L
     named_apart test off ts ds later j = ap (λ l. at_next test (l ++ later)) j.split ∙ ap (at_next test) (append_assoc j.before j.after later) ∙ off j.before j.value (j.after ++ later) j.first
 
     abbrev EndText : List Token → Declarations → Type 0
-    EndText = FitsNameless texts below o (declaring.place_of_base texts below (parts texts below) o.base)
+    EndText = FitsNameless texts below o (place_of_base o.base)
 
     after_law : Lawful (Either EndText (Joined FirstText BehindText)) (λ ds. never)
-        (choose (ends_nameless w) (nameless texts below (parts texts below) o (declaring.place_of_base texts below (parts texts below) o.base)) (declarator_in texts below (parts texts below) o o.specified.types o.base o.count >>= external_behind texts below o))
+        (choose (ends_nameless w) (nameless texts below (parts texts below) o (place_of_base o.base)) (declarator_in texts below (parts texts below) o o.specified.types o.base o.count >>= external_behind texts below o))
     after_law =
         choice_of (nameless_head texts below (parts texts below) (members_below texts below) (parameters_below texts below) some types start o f) named_law
         (λ ts ds later j h. named_apart (ends_nameless w) (nameless_off texts below (parts texts below) (members_below texts below) (parameters_below texts below) some types start o f) ts ds later j)
@@ -144,11 +146,11 @@ module _ (texts : List (List ℕ)) (below : ℕ) (some : 1 ≤ below) (types : L
 
   abbrev AfterExternal : Opening → List Token → Declarations → Type 0
   AfterExternal o =
-      Either (FitsNameless texts below o (declaring.place_of_base texts below (parts texts below) o.base)) (Joined (FitsFirst texts below o o.specified.types o.base o.count) (λ v. Either (BodyText o v.0) (FitsRest texts below o v.0)))
+      Either (FitsNameless texts below o (place_of_base o.base)) (Joined (FitsFirst texts below o o.specified.types o.base o.count) (λ v. Either (BodyText o v.0) (FitsRest texts below o v.0)))
 
   abbrev pub external_reader : Parser Token Declarations
   external_reader = opening texts below (parts texts below) types >>= (λ o.
-      choose (ends_nameless w) (nameless texts below (parts texts below) o (declaring.place_of_base texts below (parts texts below) o.base))
+      choose (ends_nameless w) (nameless texts below (parts texts below) o (place_of_base o.base))
       (declarator_in texts below (parts texts below) o o.specified.types o.base o.count >>= external_behind texts below o))
 
   joined_law : Lawful (Joined (FitsOpening texts below types) AfterExternal) (λ ds. never) external_reader

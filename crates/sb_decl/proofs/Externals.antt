@@ -4,10 +4,10 @@ use Rattle.sb_base.specs.declared.interning.Name.{Name}
 use Rattle.sb_base.specs.declared.tokens.Token.{Token}
 use Rattle.sb_parse.specs.Parser.{Parser, done, pure, and_then}
 use Rattle.sb_tree.specs.Trees.{DeclTree}
-use Rattle.sb_expr.specs.declared.reading.ReadFault.{ReadFault}
-use Rattle.sb_expr.specs.Meaning.{IsFault}
-use Rattle.sb_expr.proofs.Loops.{fault_first}
-use Rattle.sb_declare.specs.Readers.{Declarations}
+use Rattle.sb_lexicon.specs.declared.reading.ReadFault.{ReadFault}
+use Rattle.sb_lexicon.specs.Meaning.{IsFault}
+use Rattle.sb_lexicon.proofs.Loops.{fault_first}
+use Rattle.sb_specifier.specs.Readers.{Declarations}
 use Rattle.sb_decl.specs.Parts.{one_external}
 use Rattle.sb_decl.specs.Readers.{external}
 

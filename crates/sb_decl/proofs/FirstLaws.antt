@@ -7,20 +7,20 @@ use Rattle.sb_parse.specs.Parser.{Parser, at_next, never, and_then, ◌>>=◌, p
 use Rattle.sb_parse.specs.Lawful.{Lawful, OnHead, IsEmpty, Opened, Mapped, Either}
 use Rattle.sb_parse.proofs.Joining.{via, map_of, nothing}
 use Rattle.sb_parse.proofs.Heads.{head_map_of}
-use Rattle.sb_tree.specs.declared.sign.Mark.TheVariants as mark
+use Rattle.sb_sign.specs.declared.sign.Mark.TheVariants as mark
 use Rattle.sb_tree.specs.Trees as tree
-use Rattle.sb_tree.specs.Trees.{ExprTree, StmtTree, depth_of_expr, depth_of_stmt, depth_of_optional_stmt}
+use Rattle.sb_tree.specs.Trees.{ExprTree, StmtTree, depth_of_expr, depth_of_optional_stmt}
 use Rattle.sb_expr.specs.Expression.{Infix, Sequence, IsExpr, is_operand, is_primary, is_postfix, is_uncast, is_tighter, is_infix, is_chosen, is_assigned}
-use Rattle.sb_expr.specs.Lexicon.{Lexicon, operand_of, is_type_name, begins_type}
-use Rattle.sb_expr.specs.Readers.{unexpected, begins_expr}
-use Rattle.sb_expr.specs.Reads.{nowhere}
-use Rattle.sb_expr.proofs.Ways.{Refuses, goes_on_where, second_fails}
-use Rattle.sb_expr.proofs.Begins.{begins_with_no_type}
+use Rattle.sb_lexicon.specs.Lexicon.{Lexicon, operand_of, is_type_name, begins_type}
+use Rattle.sb_lexicon.specs.Tokens.{unexpected, begins_expr}
+use Rattle.sb_lexicon.specs.Outcomes.{nowhere}
+use Rattle.sb_parse.proofs.Ways.{Refuses, goes_on_where, second_fails}
+use Rattle.sb_expr.proofs.tokens.Begins.{begins_with_no_type}
 use Rattle.sb_sal.specs.Spellings.{begins_note}
-use Rattle.sb_sal.proofs.Partly.{Partly, as_partly, partly_via, with_text, refusing, choosing, opened_head}
-use Rattle.sb_declare.specs.Specified.{reading}
-use Rattle.sb_declare.specs.Readers.{is_semicolon, is_name, is_specifier_word, begins_declaration}
-use Rattle.sb_declare.proofs.Choices.{Elsewhere, hiding}
+use Rattle.sb_parse.proofs.Partly.{Partly, as_partly, partly_via, with_text, refusing, choosing, opened_head}
+use Rattle.sb_specifier.specs.Specified.{reading}
+use Rattle.sb_specifier.specs.Readers.{is_semicolon, is_name, is_specifier_word, begins_declaration}
+use Rattle.sb_parse.proofs.Choices.{Elsewhere, hiding}
 use Rattle.sb_decl.specs.Readers.{First, Parts, semicolon, evaluated, declared, first}
 use Rattle.sb_decl.specs.Statement.{IsFirst, no_first, an_expression, a_declaration}
 use Rattle.sb_decl.proofs.Chains.{AMark, sign_begins_none, sign_declares_none, heads_no_declaration}
@@ -38,10 +38,6 @@ number_tree = tree.Number number_token.text 0 nowhere
 number_token_is : (w : Lexicon) → operand_of w number_token ≡ Some number_tree
 unfolding number_token number_tree
 number_token_is w = refl
-
-number_no_name : (w : Lexicon) → is_name w number_token ≡ false
-unfolding number_token
-number_no_name w = refl
 
 number_declares_none : (w : Lexicon) → begins_declaration w number_token ≡ false
 unfolding number_token

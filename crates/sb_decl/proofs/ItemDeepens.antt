@@ -3,17 +3,18 @@ use Rattle.std.proofs.Common.{◌≡◌, ◌≤◌, ℕ, suc, Bool, true, false,
 use Rattle.sb_base.specs.declared.interning.Name.{Name}
 use Rattle.sb_base.specs.declared.tokens.Token.{Token}
 use Rattle.sb_parse.specs.Parser.{Outcome, Parser, done, stop, at_next, and_then, ◌>>=◌, token, choose}
-use Rattle.sb_expr.specs.Descent.{at_second, choose_second}
-use Rattle.sb_expr.specs.Lexicon.{Lexicon}
-use Rattle.sb_expr.specs.Readers.{unexpected, too_deep, unknown_before, is_zero, is_colon}
-use Rattle.sb_expr.proofs.Ways.{and_second}
-use Rattle.sb_expr.proofs.Wider.{Wider, zero_wider, room_wider}
+use Rattle.sb_parse.specs.Descent.{at_second, choose_second}
+use Rattle.sb_lexicon.specs.Lexicon.{Lexicon}
+use Rattle.sb_lexicon.specs.Tokens.{unexpected, too_deep, unknown_before, is_zero, is_colon}
+use Rattle.sb_parse.proofs.Ways.{and_second}
+use Rattle.sb_lexicon.proofs.Wider.{Wider, zero_wider, room_wider}
 use Rattle.sb_sal.specs.Spellings.{is_unlisted}
 use Rattle.sb_sal.proofs.Deepening.{Past, AtMost, Deepens, Deep, still_pure, at_list, most_at, deep_choice, deep_guard, moved, shrinks_second, in_order, choosing, choosing_where}
-use Rattle.sb_declare.specs.Readers.{is_name, begins_declaration, declaration_reader}
-use Rattle.sb_declare.specs.Specified.{reading}
-use Rattle.sb_declare.proofs.MemberDeepens.{text_deepens}
-use Rattle.sb_declare.proofs.ReaderDeepens.{declaration_reader_deepens}
+use Rattle.sb_specifier.specs.Readers.{is_name, begins_declaration}
+use Rattle.sb_declare.specs.Readers.{declaration_reader}
+use Rattle.sb_specifier.specs.Specified.{reading}
+use Rattle.sb_declare.proofs.deepening.Members.{text_deepens}
+use Rattle.sb_declare.proofs.deepening.Readers.{declaration_reader_deepens}
 use Rattle.sb_decl.specs.Readers.{Body, Parts, names_declaration, room_for, crowded, only_label, declared, first, declaration_item, statement_item, named_declaration, named_item, item}
 use Rattle.sb_decl.proofs.StatementStarts.{second_so}
 use Rattle.sb_decl.proofs.CrowdedWider.{first_so}

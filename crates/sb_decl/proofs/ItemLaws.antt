@@ -7,30 +7,30 @@ use Rattle.sb_parse.specs.Parser.{Parser, done, stop, at_next, and_then, â—Œ>>=â
 use Rattle.sb_parse.specs.Lawful.{Lawful, OnHead, Mapped, Unbarred, Either}
 use Rattle.sb_parse.proofs.Joining.{via, map_of}
 use Rattle.sb_parse.proofs.Heads.{head_via, head_map_of, guarded, choice_of}
-use Rattle.sb_tree.specs.declared.sign.Keyword.TheVariants as keyword
-use Rattle.sb_tree.specs.declared.sign.Mark.TheVariants as mark
+use Rattle.sb_sign.specs.declared.sign.Keyword.TheVariants as keyword
+use Rattle.sb_sign.specs.declared.sign.Mark.TheVariants as mark
 use Rattle.sb_tree.specs.Trees as tree
-use Rattle.sb_tree.specs.Trees.{ExprTree, StmtTree, depth_of_stmt, depth_of_decls}
+use Rattle.sb_tree.specs.Trees.{StmtTree, depth_of_stmt, depth_of_decls}
 use Rattle.sb_tree.specs.Plain.{decl_list}
-use Rattle.sb_expr.specs.Lexicon.{Lexicon, is_keyword, is_type_name, begins_type, name_of}
+use Rattle.sb_lexicon.specs.Lexicon.{Lexicon, is_keyword, is_type_name, begins_type, name_of}
 use Rattle.sb_expr.specs.Expression.{Sequence}
-use Rattle.sb_expr.specs.Readers.{unexpected, too_deep, bad_arguments, unknown_before, volatile, is_zero, is_open, is_colon}
-use Rattle.sb_expr.proofs.Begins.{begins_with_no_type}
-use Rattle.sb_expr.proofs.Depths.{room_is, some_room, within_room}
-use Rattle.sb_expr.proofs.Marks.{colon_token}
-use Rattle.sb_expr.proofs.Seconds.{behind, Behind, behind_law, second_of}
-use Rattle.sb_expr.proofs.Ways.{second_fails, and_first, and_second, and_fails, only_else, Refuses, one_refuses, both_refuse}
+use Rattle.sb_lexicon.specs.Tokens.{unexpected, too_deep, bad_arguments, unknown_before, volatile, is_zero, is_open, is_colon}
+use Rattle.sb_expr.proofs.tokens.Begins.{begins_with_no_type}
+use Rattle.sb_lexicon.proofs.Depths.{room_is, some_room, within_room}
+use Rattle.sb_lexicon.proofs.Marks.{colon_token}
+use Rattle.sb_parse.proofs.Seconds.{behind, Behind, behind_law, second_of}
+use Rattle.sb_parse.proofs.Ways.{second_fails, and_first, and_second, and_fails, only_else, Refuses, one_refuses, both_refuse}
 use Rattle.sb_sal.specs.Readers as notes
 use Rattle.sb_sal.specs.declared.spelling.Arguments.{Arguments}
 use Rattle.sb_sal.specs.Spellings.{begins_note, looks_like_note, word_of, arguments_of, is_listed, is_unlisted}
-use Rattle.sb_sal.proofs.Partly.{head_agree}
+use Rattle.sb_parse.proofs.Partly.{head_agree}
 use Rattle.sb_sal.proofs.Tokens.{listed_with, listed_begins, bare_by}
-use Rattle.sb_declare.specs.declared.seat.Seat.TheVariants as seat
-use Rattle.sb_declare.specs.Specified.{reading}
-use Rattle.sb_declare.specs.Readers.{is_name, is_close_brace, begins_declaration, barred}
-use Rattle.sb_declare.proofs.BarringLaws.{barred_refuses}
-use Rattle.sb_declare.proofs.Choices.{Elsewhere, hiding}
-use Rattle.sb_declare.proofs.Tying.{declaration_depth}
+use Rattle.sb_specifier.specs.declared.seat.Seat.TheVariants as seat
+use Rattle.sb_specifier.specs.Specified.{reading}
+use Rattle.sb_specifier.specs.Readers.{is_name, is_close_brace, begins_declaration, barred}
+use Rattle.sb_specifier.proofs.laws.Barring.{barred_refuses}
+use Rattle.sb_parse.proofs.Choices.{Elsewhere, hiding}
+use Rattle.sb_declare.proofs.laws.Readers.{declaration_depth}
 use Rattle.sb_decl.specs.Readers.{Body, Parts, names_declaration, room_for, crowded, only_label, goes_on_type, labelled, unlabelled, by_name, statement, statement_item, declaration_item, named_declaration, named_item, item, by_keyword, evaluated}
 use Rattle.sb_decl.specs.Statement.{IsStatement, IsDeclared, is_empty}
 use Rattle.sb_decl.proofs.Chains.{AMark, heads_of, flipped, sign_declares_none, heads_no_declaration}

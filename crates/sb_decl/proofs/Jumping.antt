@@ -7,23 +7,23 @@ use Rattle.sb_parse.specs.Parser.{at_next, ◌>>=◌, pure, token}
 use Rattle.sb_parse.specs.Lawful.{OnHead, IsEmpty, IsToken, Joined, Opened, Begun, Mapped}
 use Rattle.sb_parse.proofs.Joining.{via, map_of, nothing, in_order, one_token}
 use Rattle.sb_parse.proofs.Heads.{opened, begun}
-use Rattle.sb_tree.specs.declared.sign.Keyword.TheVariants as keyword
-use Rattle.sb_tree.specs.declared.sign.Mark.TheVariants as mark
+use Rattle.sb_sign.specs.declared.sign.Keyword.TheVariants as keyword
+use Rattle.sb_sign.specs.declared.sign.Mark.TheVariants as mark
 use Rattle.sb_tree.specs.Trees as tree
 use Rattle.sb_tree.specs.Trees.{ExprTree, OptionalExpr, StmtTree, depth_of_expr, depth_of_optional_expr, depth_of_stmt}
 use Rattle.sb_expr.specs.Expression.{Conditional}
-use Rattle.sb_expr.specs.Lexicon.{Lexicon, is_keyword, name_of}
-use Rattle.sb_expr.specs.Readers.{unexpected, is_colon}
+use Rattle.sb_lexicon.specs.Lexicon.{Lexicon, is_keyword, name_of}
+use Rattle.sb_lexicon.specs.Tokens.{unexpected, is_colon}
 use Rattle.sb_expr.specs.Reads.{FitsExpr}
-use Rattle.sb_expr.proofs.Ends.{conditional_ends}
-use Rattle.sb_expr.proofs.Lexemes.{mark_is, name_token, name_token_is}
-use Rattle.sb_expr.proofs.Marks.{colon_token, colon_token_is}
-use Rattle.sb_expr.proofs.More.{more}
-use Rattle.sb_expr.proofs.Ways.{and_first, and_second, goes_on_where}
-use Rattle.sb_sal.proofs.Partly.{opened_head}
-use Rattle.sb_declare.specs.Specified.{reading}
-use Rattle.sb_declare.specs.Readers.{is_semicolon, name_at}
-use Rattle.sb_declare.proofs.Lexing.{named_at, at_name}
+use Rattle.sb_expr.proofs.tokens.Ends.{conditional_ends}
+use Rattle.sb_lexicon.proofs.Lexemes.{mark_is, name_token, name_token_is}
+use Rattle.sb_lexicon.proofs.Marks.{colon_token, colon_token_is}
+use Rattle.sb_expr.proofs.tokens.More.{more}
+use Rattle.sb_parse.proofs.Ways.{and_first, and_second, goes_on_where}
+use Rattle.sb_parse.proofs.Partly.{opened_head}
+use Rattle.sb_specifier.specs.Specified.{reading}
+use Rattle.sb_specifier.specs.Readers.{is_semicolon, name_at}
+use Rattle.sb_specifier.proofs.laws.Names.{named_at, at_name}
 use Rattle.sb_decl.specs.Readers.{Parts, semicolon, empty, optional, gone, broken, continued, returned, case_of, default_of}
 use Rattle.sb_decl.specs.Statement.{is_empty, is_goto, is_break, is_continue, is_return, is_case, is_default, IsOptional, IsStatement}
 use Rattle.sb_decl.proofs.Laws.{more_statement, FitsStatement, LawfulStatements}

@@ -7,24 +7,24 @@ use Rattle.sb_parse.specs.Parser.{at_next, choose, guard}
 use Rattle.sb_parse.specs.Lawful.{Lawful, OnHead, Unbarred, Either}
 use Rattle.sb_parse.proofs.Joining.{via}
 use Rattle.sb_parse.proofs.Heads.{guarded}
-use Rattle.sb_tree.specs.declared.sign.Keyword.{Keyword}
-use Rattle.sb_tree.specs.declared.sign.Keyword.TheVariants as keyword
-use Rattle.sb_tree.specs.declared.sign.Mark.TheVariants as mark
+use Rattle.sb_sign.specs.declared.sign.Keyword.{Keyword}
+use Rattle.sb_sign.specs.declared.sign.Keyword.TheVariants as keyword
+use Rattle.sb_sign.specs.declared.sign.Mark.TheVariants as mark
 use Rattle.sb_tree.specs.Trees as tree
-use Rattle.sb_tree.specs.Trees.{ExprTree, OptionalExpr, StmtTree, OptionalStmt, depth_of_expr, depth_of_optional_expr, depth_of_stmt, depth_of_optional_stmt}
-use Rattle.sb_expr.specs.Lexicon.{Lexicon, is_keyword, is_type_name}
-use Rattle.sb_expr.specs.Readers.{too_deep, is_zero, is_open_brace}
-use Rattle.sb_expr.proofs.Depths.{some_depth, some_room, room_is}
-use Rattle.sb_expr.proofs.Ways.{and_second}
+use Rattle.sb_tree.specs.Trees.{StmtTree, depth_of_expr, depth_of_optional_expr, depth_of_stmt, depth_of_optional_stmt}
+use Rattle.sb_lexicon.specs.Lexicon.{Lexicon, is_keyword, is_type_name}
+use Rattle.sb_lexicon.specs.Tokens.{too_deep, is_zero, is_open_brace}
+use Rattle.sb_lexicon.proofs.Depths.{some_depth, some_room, room_is}
+use Rattle.sb_parse.proofs.Ways.{and_second}
 use Rattle.sb_sal.specs.Spellings.{begins_note, looks_like_note, word_of}
-use Rattle.sb_sal.proofs.Partly.{with_text}
-use Rattle.sb_declare.specs.Specified.{reading}
-use Rattle.sb_declare.specs.Readers.{is_semicolon, is_close_brace, is_name}
-use Rattle.sb_declare.proofs.Choices.{Elsewhere, hiding}
-use Rattle.sb_declare.proofs.Lexing.{mark_no_name}
+use Rattle.sb_parse.proofs.Partly.{with_text}
+use Rattle.sb_specifier.specs.Specified.{reading}
+use Rattle.sb_specifier.specs.Readers.{is_semicolon, is_close_brace, is_name}
+use Rattle.sb_parse.proofs.Choices.{Elsewhere, hiding}
+use Rattle.sb_specifier.proofs.laws.Names.{mark_no_name}
 use Rattle.sb_decl.specs.Readers.{Body, Parts, evaluated, case_of, default_of, by_keyword, statement}
 use Rattle.sb_decl.specs.Statement as grammar
-use Rattle.sb_decl.specs.Statement.{IsTested, IsOptional, IsEvaluated, IsFirst, IsStatement, IsBlock}
+use Rattle.sb_decl.specs.Statement.{IsEvaluated, IsStatement}
 use Rattle.sb_decl.proofs.Chains.{Sign, AMark, AWord, is_sign, Chain, link, heads_of, sign_no_name}
 use Rattle.sb_decl.proofs.Laws.{plain, more_statement, more_body, FitsStatement, FitsBlock, OneItem, LawfulStatements}
 use Rattle.sb_decl.proofs.Valued.{EvaluatedText, evaluated_partly, evaluated_heads, to_evaluated, from_evaluated, semicolon_token, semicolon_token_is}
@@ -97,9 +97,6 @@ module _ (texts : List (List ℕ)) (below : ℕ) (part : Parts) (types : List Na
 
   word_off : (k : Keyword) (t : Token) → is_keyword here k t ≡ true → is_name here t ≡ false
   word_off k t h = sign_no_name texts types (AWord k) t h
-
-  nested_in : (is_zero below ≡ false) → {Is : List Token → StmtTree → Type 0} (ts : List Token) (s : StmtTree) → Is ts s → Unbarred (is_zero below) Is ts s
-  nested_in room ts s is = record { open_way = room; is = is }
 
   room_with : (s : StmtTree) → depth_of_stmt s ≤ below → is_zero below ≡ false
   room_with s le = some_room below (depth_of_stmt s) (some_stmt s) le

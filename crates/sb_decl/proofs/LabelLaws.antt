@@ -10,26 +10,27 @@ use Rattle.sb_parse.specs.Parser.{done, stop, at_next, and_then, ◌>>=◌, pure
 use Rattle.sb_parse.specs.Lawful.{Lawful, OnHead, Begun, Opened, Mapped, Unbarred, Either}
 use Rattle.sb_parse.proofs.Joining.{via, map_of}
 use Rattle.sb_parse.proofs.Heads.{head_via, guarded, choice_of}
-use Rattle.sb_tree.specs.declared.sign.Keyword.{Keyword}
-use Rattle.sb_tree.specs.declared.sign.Mark.TheVariants as mark
-use Rattle.sb_tree.specs.Signs as sign
+use Rattle.sb_sign.specs.declared.sign.Keyword.{Keyword}
+use Rattle.sb_sign.specs.declared.sign.Mark.TheVariants as mark
+use Rattle.sb_sign.specs.Signs as sign
 use Rattle.sb_tree.specs.Trees as tree
-use Rattle.sb_tree.specs.Trees.{ExprTree, StmtTree, depth_of_expr, depth_of_stmt}
+use Rattle.sb_tree.specs.Trees.{ExprTree, StmtTree, depth_of_stmt}
 use Rattle.sb_expr.specs.Expression.{Infix, Sequence, IsExpr, is_operand, is_primary, is_postfix, is_uncast, is_tighter, is_infix, is_chosen, is_assigned}
-use Rattle.sb_expr.specs.Lexicon.{Lexicon, name_of, is_type_name, begins_type, is_among, operand_of, named_operand}
-use Rattle.sb_expr.specs.Readers.{unexpected, too_deep, unknown_before, is_zero, is_colon, begins_expr, expr_reader}
-use Rattle.sb_expr.proofs.Begins.{expr_begins, begins_with_no_type}
-use Rattle.sb_expr.proofs.Depths.{room_is}
-use Rattle.sb_expr.proofs.Ends.{colon_ends}
-use Rattle.sb_expr.proofs.Lexemes.{mark_is, mark_alone}
-use Rattle.sb_expr.proofs.Marks.{colon_token, colon_token_is}
-use Rattle.sb_expr.proofs.Seconds.{behind, Behind, behind_law, second_of}
-use Rattle.sb_expr.proofs.Ways.{first_fails, second_fails, or_second, and_first, only_else, Refuses}
+use Rattle.sb_lexicon.specs.Lexicon.{Lexicon, name_of, is_type_name, begins_type, is_among, operand_of, named_operand}
+use Rattle.sb_expr.specs.Readers.{expr_reader}
+use Rattle.sb_lexicon.specs.Tokens.{unexpected, too_deep, unknown_before, is_zero, is_colon, begins_expr}
+use Rattle.sb_expr.proofs.tokens.Begins.{expr_begins, begins_with_no_type}
+use Rattle.sb_lexicon.proofs.Depths.{room_is}
+use Rattle.sb_expr.proofs.tokens.Ends.{colon_ends}
+use Rattle.sb_lexicon.proofs.Lexemes.{mark_is, mark_alone}
+use Rattle.sb_lexicon.proofs.Marks.{colon_token, colon_token_is}
+use Rattle.sb_parse.proofs.Seconds.{behind, Behind, behind_law, second_of}
+use Rattle.sb_parse.proofs.Ways.{first_fails, second_fails, or_second, and_first, only_else, Refuses}
 use Rattle.sb_sal.specs.Spellings.{begins_note, is_listed, is_unlisted}
-use Rattle.sb_sal.proofs.Partly.{opened_head}
-use Rattle.sb_declare.specs.Specified.{reading}
-use Rattle.sb_declare.specs.Readers.{is_name, name_at}
-use Rattle.sb_declare.proofs.Lexing.{name_is, named_at, at_name}
+use Rattle.sb_parse.proofs.Partly.{opened_head}
+use Rattle.sb_specifier.specs.Specified.{reading}
+use Rattle.sb_specifier.specs.Readers.{is_name, name_at}
+use Rattle.sb_specifier.proofs.laws.Names.{name_is, named_at, at_name}
 use Rattle.sb_decl.specs.Readers.{Parts, evaluated, labelled, only_label, unlabelled, by_name}
 use Rattle.sb_decl.specs.Statement.{is_empty, is_label, is_expression, IsEvaluated}
 use Rattle.sb_decl.proofs.Laws.{more_statement, FitsStatement, LawfulStatements}

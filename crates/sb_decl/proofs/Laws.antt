@@ -4,10 +4,10 @@ use Rattle.sb_base.specs.declared.interning.Name.{Name}
 use Rattle.sb_base.specs.declared.tokens.Token.{Token}
 use Rattle.sb_parse.specs.Parser.{never}
 use Rattle.sb_parse.specs.Lawful.{Lawful}
-use Rattle.sb_tree.specs.declared.sign.Keyword.TheVariants as keyword
+use Rattle.sb_sign.specs.declared.sign.Keyword.TheVariants as keyword
 use Rattle.sb_tree.specs.Trees.{StmtTree, depth_of_stmt, depth_of_optional_stmt}
-use Rattle.sb_expr.specs.Lexicon.{Lexicon, is_keyword}
-use Rattle.sb_declare.specs.Specified.{reading}
+use Rattle.sb_lexicon.specs.Lexicon.{Lexicon, is_keyword}
+use Rattle.sb_specifier.specs.Specified.{reading}
 use Rattle.sb_decl.specs.Readers.{Body, First, Parts}
 use Rattle.sb_decl.specs.Statement.{takes_else, IsDeclared, IsFirst, IsStatement, IsBlock}
 

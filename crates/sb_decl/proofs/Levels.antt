@@ -3,8 +3,8 @@ use Rattle.std.proofs.Common.{◌≡◌, ℕ, zero, suc, ◌-◌, ◌<◌, Bool,
 use Rattle.sb_base.specs.declared.interning.Name.{Name}
 use Rattle.sb_base.specs.declared.tokens.Token.{Token}
 use Rattle.sb_parse.specs.Parser.{refuse}
-use Rattle.sb_expr.specs.Readers.{unexpected}
-use Rattle.sb_declare.specs.Specified.{reading}
+use Rattle.sb_lexicon.specs.Tokens.{unexpected}
+use Rattle.sb_specifier.specs.Specified.{reading}
 use Rattle.sb_decl.specs.Meaning.{nested}
 use Rattle.sb_decl.specs.Parts as part
 use Rattle.sb_decl.specs.Readers as spec

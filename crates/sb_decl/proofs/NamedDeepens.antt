@@ -4,32 +4,36 @@ use Rattle.std.proofs.Math.Nat.{le-max_left, le-max_right}
 use Rattle.sb_base.specs.declared.interning.Name.{Name}
 use Rattle.sb_base.specs.declared.tokens.Token.{Token}
 use Rattle.sb_parse.specs.Parser.{Outcome, Parser, done, stop, at_next, never, and_then, ◌>>=◌, pure, choose, refuse}
-use Rattle.sb_tree.specs.declared.sign.Keyword.TheVariants as keyword
+use Rattle.sb_sign.specs.declared.sign.Keyword.TheVariants as keyword
 use Rattle.sb_tree.specs.Plain.{decl_list}
-use Rattle.sb_tree.specs.Signs as sign
+use Rattle.sb_sign.specs.Signs as sign
 use Rattle.sb_tree.specs.Trees.{NoteTree, TypeTree, depth_of_decls}
-use Rattle.sb_expr.specs.Lexicon.{Lexicon, name_of, is_keyword, is_type_name}
-use Rattle.sb_expr.specs.Readers.{unexpected, too_deep, bad_arguments, unknown, volatile, is_open, is_star}
-use Rattle.sb_expr.proofs.Depths.{room_within}
-use Rattle.sb_expr.proofs.Ways.{and_first, and_second, or_first, or_second}
+use Rattle.sb_lexicon.specs.Lexicon.{Lexicon, name_of, is_keyword, is_type_name}
+use Rattle.sb_lexicon.specs.Tokens.{unexpected, too_deep, bad_arguments, unknown, volatile, is_open, is_star}
+use Rattle.sb_lexicon.proofs.Depths.{room_within}
+use Rattle.sb_parse.proofs.Ways.{and_first, and_second, or_first, or_second}
 use Rattle.sb_sal.specs.declared.bearer.Bearer.TheVariants as bearer
 use Rattle.sb_sal.specs.Readers.{is_bare, notes_reader}
 use Rattle.sb_sal.specs.Spellings.{begins_note, is_listed, is_unlisted, may_stand}
 use Rattle.sb_sal.proofs.Deepening.{Past, read_past, stopped_past, past_bind, shrinks_pure, shrinks_then}
 use Rattle.sb_sal.proofs.ExprDeepening.{past_by_text}
+use Rattle.sb_sal.proofs.Lowered.{not_unexpected, not_bad_arguments}
 use Rattle.sb_sal.proofs.NoteWider.{no_notes}
-use Rattle.sb_declare.specs.declared.seat.Seat.TheVariants as seat
+use Rattle.sb_specifier.specs.declared.seat.Seat.TheVariants as seat
 use Rattle.sb_declare.specs.Reads.{FitsDeclaration}
-use Rattle.sb_declare.specs.Specified.{reading, Specified}
-use Rattle.sb_declare.specs.Readers.{with_front, with_text, is_semicolon, is_name, is_storage_word, is_specifier_word, begins_declaration, Opening, barred, specifiers, opening, parts, declaration_reader}
-use Rattle.sb_declare.proofs.MemberDeepens.{past_front, shrinks_text}
-use Rattle.sb_declare.proofs.Shrinking.{specifiers_shrink}
-use Rattle.sb_declare.proofs.Tying.{lawful_declaration}
-use Rattle.sb_declare.proofs.EachDeepens.{members_shrink_at}
-use Rattle.sb_declare.proofs.BarredDeepens.{Enters, FromDepth, begins}
-use Rattle.sb_declare.proofs.InitialiserDeepens.{initialiser_deepens}
-use Rattle.sb_declare.proofs.DeclarationDeepens.{declaration_past}
-use Rattle.sb_declare.proofs.ReaderDeepens.{scope_specifiers, scope_declarators}
+use Rattle.sb_specifier.specs.Specified.{reading, Specified}
+use Rattle.sb_parse.specs.Texts.{with_front, with_text}
+use Rattle.sb_specifier.specs.Readers.{is_semicolon, is_name, is_storage_word, is_specifier_word, begins_declaration, barred, specifiers}
+use Rattle.sb_declare.specs.Readers.{Opening, opening, declaration_reader}
+use Rattle.sb_declarator.specs.Readers.{parts}
+use Rattle.sb_declare.proofs.deepening.Members.{past_front, shrinks_text}
+use Rattle.sb_declare.proofs.deepening.Shrinking.{specifiers_shrink}
+use Rattle.sb_declare.proofs.laws.Readers.{lawful_declaration}
+use Rattle.sb_declare.proofs.deepening.Each.{members_shrink_at}
+use Rattle.sb_declare.proofs.deepening.Barred.{Enters, FromDepth, begins}
+use Rattle.sb_declare.proofs.deepening.Initialisers.{initialiser_deepens}
+use Rattle.sb_declare.proofs.deepening.Declarations.{declaration_past}
+use Rattle.sb_declare.proofs.deepening.Readers.{scope_specifiers, scope_declarators}
 use Rattle.sb_decl.specs.Readers.{Body, names_declaration, goes_on_type, room_for, crowded}
 use Rattle.sb_decl.proofs.Beginning.{name_specifies_none}
 use Rattle.sb_decl.proofs.CrowdedWider.{first_so}
@@ -137,13 +141,7 @@ module _ (texts : List (List ℕ)) (types : List Name) (n : ℕ) (t : Token) whe
   deeper_at : (x left : ℕ) (ts : List Token) → n ≤ x → Past left (declaration_reader texts (suc (suc (suc x))) types (t ∷ ts)) → Deeper ts left
   deeper_at x left ts le P = (suc (suc (suc x)), omega arith, roomy (suc (suc (suc x))) (omega arith), P)
 
-  bad_not_deep : bad_arguments ≡ too_deep → ⊥
-  bad_not_deep h = let both : Path ℕ 35 32 = h in omega arith
-
-  unexpected_not_deep : unexpected ≡ too_deep → ⊥
-  unexpected_not_deep h = let both : Path ℕ 31 32 = h in omega arith
-
-  -- a listed annotation stands where one begins that is known
+  -- a word in an annotation's place that is not unlisted is listed
   listed_there : (s : Token) → is_unlisted w s ≡ false → begins_note w s ≡ true → is_listed w s ≡ true
   listed_there s h k = by_tests (begins_note w s) (is_listed w s) h k
     where
@@ -162,7 +160,7 @@ module _ (texts : List (List ℕ)) (types : List Name) (n : ℕ) (t : Token) whe
   -- without arguments
   module _ (bare : is_bare w t ≡ true) where
     bare_deeper : (ts : List Token) (left : ℕ) → at_next (is_open w) ts ≡ false → barred {A = Body} w seat.Scope ts ≡ stop too_deep left → Deeper ts left
-    bare_deeper [] left opens e = absurd (not_so unexpected 0 left unexpected_not_deep e)
+    bare_deeper [] left opens e = absurd (not_so unexpected 0 left not_unexpected e)
     bare_deeper (s ∷ us) left opens e =
         let it : (left ≡ length (s ∷ us)) × FromDepth texts types seat.Scope (s ∷ us) = begins Body texts types seat.Scope (s ∷ us) left e in
         let x : ℕ = n + it.1.0 in
@@ -181,17 +179,17 @@ module _ (texts : List (List ℕ)) (types : List Name) (n : ℕ) (t : Token) whe
     behind_bare ts left e = by_open (at_next (is_open w) ts) refl e
       where
         by_open : (b : Bool) → at_next (is_open w) ts ≡ b → Path (Outcome Token Body) (if b then stop bad_arguments (length ts) else barred w seat.Scope ts) (stop too_deep left) → Deeper ts left
-        by_open true h e = absurd (not_so bad_arguments (length ts) left bad_not_deep e)
+        by_open true h e = absurd (not_so bad_arguments (length ts) left not_bad_arguments e)
         by_open false h e = bare_deeper ts left h e
 
   -- with arguments
   behind_applied : is_bare w t ≡ false → is_listed w t ≡ true → (ts : List Token) (left : ℕ)
       → Path (Outcome Token Body) (choose (is_open w) (refuse too_deep) (choose (λ s. true) (refuse bad_arguments) (refuse unexpected)) ts) (stop too_deep left) → Deeper ts left
-  behind_applied bare listed [] left e = absurd (not_so unexpected 0 left unexpected_not_deep e)
+  behind_applied bare listed [] left e = absurd (not_so unexpected 0 left not_unexpected e)
   behind_applied bare listed (o ∷ us) left e = by_open (is_open w o) refl e
     where
       by_open : (b : Bool) → is_open w o ≡ b → Path (Outcome Token Body) (if b then stop too_deep (length (o ∷ us)) else stop bad_arguments (length (o ∷ us))) (stop too_deep left) → Deeper (o ∷ us) left
-      by_open false h e = absurd (not_so bad_arguments (length (o ∷ us)) left bad_not_deep e)
+      by_open false h e = absurd (not_so bad_arguments (length (o ∷ us)) left not_bad_arguments e)
       by_open true h e =
           let lefts : length (o ∷ us) ≡ left = cc e in
           subst (Deeper (o ∷ us)) lefts (deeper_at n (length (o ∷ us)) (o ∷ us) (omega arith) (notes_then n (length (o ∷ us)) (t ∷ (o ∷ us)) (applied_past w (suc (suc n)) (omega arith) t o us listed bare h)))

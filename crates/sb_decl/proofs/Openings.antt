@@ -6,17 +6,17 @@ use Rattle.sb_base.specs.declared.interning.Name.{Name}
 use Rattle.sb_base.specs.declared.refusals.Place.{Place}
 use Rattle.sb_base.specs.declared.tokens.Token.{Token}
 use Rattle.sb_parse.specs.Parser.{at_next}
-use Rattle.sb_tree.specs.declared.sign.Keyword.{Keyword}
-use Rattle.sb_tree.specs.declared.sign.Keyword.TheVariants as keyword
-use Rattle.sb_tree.specs.declared.sign.Mark.TheVariants as mark
+use Rattle.sb_sign.specs.declared.sign.Keyword.{Keyword}
+use Rattle.sb_sign.specs.declared.sign.Keyword.TheVariants as keyword
+use Rattle.sb_sign.specs.declared.sign.Mark.TheVariants as mark
 use Rattle.sb_tree.specs.Plain.{arg_list, note_list, decl_list}
-use Rattle.sb_tree.specs.Signs as sign
+use Rattle.sb_sign.specs.Signs as sign
 use Rattle.sb_tree.specs.Trees as tree
-use Rattle.sb_tree.specs.Trees.{ArgTree, ExprArg, NoteArg, NoteTree, TypeTree, DeclTree, OptionalInit, depth_of_arg, depth_of_args, depth_of_note, depth_of_notes, depth_of_decl, depth_of_decls, depth_of_type, depth_of_optional_init}
-use Rattle.sb_expr.specs.Lexicon.{Lexicon, is_mark, is_keyword, is_type_name}
-use Rattle.sb_expr.specs.Readers.{is_open, is_colon}
-use Rattle.sb_expr.proofs.Depths.{some_depth}
-use Rattle.sb_expr.proofs.Lexemes.{keyword_is, mark_is, mark_alone}
+use Rattle.sb_tree.specs.Trees.{ArgTree, ExprArg, NoteArg, NoteTree, TypeTree, OptionalInit, depth_of_arg, depth_of_args, depth_of_note, depth_of_notes, depth_of_decl, depth_of_decls, depth_of_type, depth_of_optional_init}
+use Rattle.sb_lexicon.specs.Lexicon.{Lexicon, is_mark, is_keyword, is_type_name}
+use Rattle.sb_lexicon.specs.Tokens.{is_open, is_colon}
+use Rattle.sb_lexicon.proofs.Depths.{some_depth}
+use Rattle.sb_lexicon.proofs.Lexemes.{keyword_is, mark_is, mark_alone}
 use Rattle.sb_expr.specs.Pieces.{typed}
 use Rattle.sb_sal.specs.declared.bearer.Bearer.{Bearer}
 use Rattle.sb_sal.specs.declared.spelling.Arguments.{Arguments}
@@ -26,17 +26,19 @@ use Rattle.sb_sal.specs.Readers.{is_nothing}
 use Rattle.sb_sal.specs.Spellings.{begins_note, arguments_of}
 use Rattle.sb_sal.proofs.Noting.{some_note, note_begins}
 use Rattle.sb_sal.proofs.Tokens.{mark_no_note}
-use Rattle.sb_declare.specs.declared.seat.Seat.{Seat}
-use Rattle.sb_declare.specs.declared.seat.Seat.TheVariants as seat
-use Rattle.sb_declare.specs.Specified.{reading, Specified, unspecified, again, storage_of}
-use Rattle.sb_declare.specs.Declaration.{IsTag, is_untagged, is_tagged, IsSpecifier, is_word, is_constant, is_restricted, is_inline, is_stored, is_defined, names_structure, names_enumeration, defines_structure, defines_enumeration, AreSpecifiers, no_specifiers, more_specifiers, IsDeclarator, IsJudged, may_stand_there, is_pardoned, is_declared, AreDeclared, first_declared, declared_behind, Begins, IsDeclaration, is_nameless, is_declaration, declaration_of, functions_in, place_of_base}
-use Rattle.sb_declare.specs.Readers.{is_specifier_word, Declarations, Declarator, is_name}
-use Rattle.sb_declare.proofs.Calls.{last_depth}
-use Rattle.sb_declare.proofs.Beginnings.{is_nothing_by, begins_any, some_begins}
-use Rattle.sb_declare.proofs.Heads.{begins_specifier, specifier_begins, specifiers_begin, declaration_no_mark}
-use Rattle.sb_declare.proofs.Judging.{pardon_no_mark}
-use Rattle.sb_declare.proofs.MemberLaws.{no_colon}
-use Rattle.sb_declare.proofs.Typed.{has_its_name}
+use Rattle.sb_specifier.specs.declared.seat.Seat.{Seat}
+use Rattle.sb_specifier.specs.declared.seat.Seat.TheVariants as seat
+use Rattle.sb_specifier.specs.Specified.{reading, Specified, unspecified, again, storage_of}
+use Rattle.sb_specifier.specs.Declaration.{IsTag, is_untagged, is_tagged, IsSpecifier, is_word, is_constant, is_restricted, is_inline, is_stored, is_defined, names_structure, names_enumeration, defines_structure, defines_enumeration, AreSpecifiers, no_specifiers, more_specifiers, IsDeclarator}
+use Rattle.sb_declare.specs.Declaration.{IsJudged, may_stand_there, is_pardoned, is_declared, AreDeclared, first_declared, declared_behind, Begins, IsDeclaration, is_nameless, is_declaration, declaration_of}
+use Rattle.sb_specifier.specs.Readers.{is_specifier_word, Declarations, Declarator, is_name, place_of_base}
+use Rattle.sb_declare.specs.Readers.{functions_in}
+use Rattle.sb_declarator.proofs.laws.Calls.{last_depth}
+use Rattle.sb_declarator.proofs.laws.Beginnings.{is_nothing_by, begins_any, some_begins}
+use Rattle.sb_declarator.proofs.laws.Heads.{begins_specifier, specifier_begins, specifiers_begin, declaration_no_mark}
+use Rattle.sb_declare.proofs.laws.Judging.{pardon_no_mark}
+use Rattle.sb_declarator.proofs.laws.Members.{no_colon}
+use Rattle.sb_declarator.proofs.laws.Typed.{has_its_name}
 use Rattle.sb_decl.proofs.Chains.{same_as_itself, keyword_no_name}
 
 -- ---- lists

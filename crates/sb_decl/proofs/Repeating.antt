@@ -10,21 +10,21 @@ use Rattle.sb_parse.specs.Parser.{Outcome, Parser, done, stop, at_next, and_then
 use Rattle.sb_parse.specs.Lawful.{Lawful, OnHead, Joined, Opened, Closed, Mapped}
 use Rattle.sb_parse.proofs.Joining.{via, map_of, in_order, never_next}
 use Rattle.sb_parse.proofs.Heads.{opened}
-use Rattle.sb_tree.specs.declared.sign.Keyword.TheVariants as keyword
-use Rattle.sb_tree.specs.declared.sign.Mark.TheVariants as mark
-use Rattle.sb_tree.specs.Signs as sign
+use Rattle.sb_sign.specs.declared.sign.Keyword.TheVariants as keyword
+use Rattle.sb_sign.specs.declared.sign.Mark.TheVariants as mark
+use Rattle.sb_sign.specs.Signs as sign
 use Rattle.sb_tree.specs.Trees as tree
 use Rattle.sb_tree.specs.Trees.{ExprTree, OptionalExpr, StmtTree, depth_of_expr, depth_of_optional_expr, depth_of_stmt, depth_of_optional_stmt}
-use Rattle.sb_expr.specs.Lexicon.{Lexicon, is_keyword}
-use Rattle.sb_expr.specs.Readers.{unexpected, is_open, is_close}
-use Rattle.sb_expr.specs.Reads.{nowhere}
-use Rattle.sb_expr.proofs.Ends.{close_ends}
-use Rattle.sb_expr.proofs.Lexemes.{keyword_is, close_token, close_token_is}
-use Rattle.sb_expr.proofs.Ways.{closing, and_fails, goes_on_where}
-use Rattle.sb_sal.proofs.Partly.{opened_head}
+use Rattle.sb_lexicon.specs.Lexicon.{Lexicon, is_keyword}
+use Rattle.sb_lexicon.specs.Tokens.{unexpected, is_open, is_close}
+use Rattle.sb_lexicon.specs.Outcomes.{nowhere}
+use Rattle.sb_expr.proofs.tokens.Ends.{close_ends}
+use Rattle.sb_lexicon.proofs.Lexemes.{keyword_is, close_token, close_token_is}
+use Rattle.sb_parse.proofs.Ways.{closing, and_fails, goes_on_where}
+use Rattle.sb_parse.proofs.Partly.{opened_head}
 use Rattle.sb_sal.proofs.Tokens.{open_token, open_token_is}
-use Rattle.sb_declare.specs.Specified.{reading}
-use Rattle.sb_declare.specs.Readers.{is_semicolon}
+use Rattle.sb_specifier.specs.Specified.{reading}
+use Rattle.sb_specifier.specs.Readers.{is_semicolon}
 use Rattle.sb_decl.specs.Readers.{First, Parts, semicolon, optional, repeated, done_first, stepped, iterated}
 use Rattle.sb_decl.specs.Statement.{takes_else, is_while, is_do, is_for, IsOptional}
 use Rattle.sb_decl.proofs.Laws.{is_else, more_statement, FitsStatement, FitsFirst, LawfulStatements}

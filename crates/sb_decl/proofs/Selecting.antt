@@ -7,14 +7,14 @@ use Rattle.sb_base.specs.declared.tokens.Token.{Token}
 use Rattle.sb_parse.specs.Parser.{Outcome, Parser, done, stop, at_next, and_then, ◌>>=◌, pure, token}
 use Rattle.sb_parse.specs.Lawful.{Lawful, Follows, OnHead, IsEmpty, Joined, Opened, Mapped, Either}
 use Rattle.sb_parse.proofs.Joining.{via, nothing, map_of, in_order, from_there, never_next}
-use Rattle.sb_tree.specs.declared.sign.Keyword.TheVariants as keyword
+use Rattle.sb_sign.specs.declared.sign.Keyword.TheVariants as keyword
 use Rattle.sb_tree.specs.Trees as tree
-use Rattle.sb_tree.specs.Trees.{ExprTree, StmtTree, OptionalStmt, depth_of_expr, depth_of_stmt, depth_of_optional_stmt}
-use Rattle.sb_expr.specs.Lexicon.{is_keyword}
-use Rattle.sb_expr.specs.Readers.{unexpected}
-use Rattle.sb_expr.proofs.Ways.{following_where, follows_map, perhaps_there}
-use Rattle.sb_sal.proofs.Partly.{opened_head}
-use Rattle.sb_declare.specs.Specified.{reading}
+use Rattle.sb_tree.specs.Trees.{ExprTree, StmtTree, OptionalStmt, depth_of_expr, depth_of_stmt}
+use Rattle.sb_lexicon.specs.Lexicon.{is_keyword}
+use Rattle.sb_lexicon.specs.Tokens.{unexpected}
+use Rattle.sb_parse.proofs.Ways.{following_where, follows_map, perhaps_there}
+use Rattle.sb_parse.proofs.Partly.{opened_head}
+use Rattle.sb_specifier.specs.Specified.{reading}
 use Rattle.sb_decl.specs.Readers.{Parts, other, selected, switched}
 use Rattle.sb_decl.specs.Statement.{takes_else, is_if, is_if_else, is_switch}
 use Rattle.sb_decl.proofs.Laws.{is_else, more_statement, FitsStatement, FitsBlock, LawfulStatements}

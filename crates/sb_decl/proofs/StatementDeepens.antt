@@ -4,26 +4,25 @@ use Rattle.sb_base.specs.declared.interning.Name.{Name}
 use Rattle.sb_base.specs.declared.refusals.Place.{Place}
 use Rattle.sb_base.specs.declared.tokens.Token.{Token}
 use Rattle.sb_parse.specs.Parser.{Parser, stop, at_next, ◌>>=◌, pure, token, choose, guard}
-use Rattle.sb_tree.specs.declared.sign.Keyword.{Keyword}
-use Rattle.sb_tree.specs.declared.sign.Keyword.TheVariants as keyword
+use Rattle.sb_sign.specs.declared.sign.Keyword.{Keyword}
+use Rattle.sb_sign.specs.declared.sign.Keyword.TheVariants as keyword
 use Rattle.sb_tree.specs.Trees as tree
 use Rattle.sb_tree.specs.Trees.{StmtTree}
-use Rattle.sb_expr.specs.Descent.{choose_second}
+use Rattle.sb_parse.specs.Descent.{choose_second}
 use Rattle.sb_expr.specs.Expression.{Conditional, Sequence}
-use Rattle.sb_expr.specs.Lexicon.{Lexicon, is_keyword}
-use Rattle.sb_expr.specs.Readers.{unexpected, too_deep, unknown_before, is_zero, is_open, is_close, is_open_brace, is_colon, expr_reader}
-use Rattle.sb_expr.proofs.Ways.{and_second}
-use Rattle.sb_expr.proofs.Wider.{zero_wider}
-use Rattle.sb_sal.proofs.Deepening.{Past, Shrinks, Deepens, Deep, at_list, most_at, deep_guard, shrinks_token, shrinks_then}
-use Rattle.sb_sal.proofs.Deepening.{still_pure, still_refuse, in_order, choosing, choosing_where, choosing_second, turning, open_zero}
+use Rattle.sb_lexicon.specs.Lexicon.{Lexicon, is_keyword}
+use Rattle.sb_expr.specs.Readers.{expr_reader}
+use Rattle.sb_lexicon.specs.Tokens.{unexpected, too_deep, unknown_before, is_zero, is_open, is_close, is_open_brace, is_colon}
+use Rattle.sb_parse.proofs.Ways.{and_second}
+use Rattle.sb_lexicon.proofs.Wider.{zero_wider}
+use Rattle.sb_sal.proofs.Deepening.{Past, Shrinks, Deepens, Deep, at_list, most_at, deep_guard, shrinks_token, shrinks_then, still_pure, still_refuse, in_order, choosing, choosing_where, choosing_second, turning, open_zero}
 use Rattle.sb_sal.proofs.ExprDeepening.{expr_deepens}
-use Rattle.sb_sal.proofs.Lowered.{expects, takes}
-use Rattle.sb_declare.specs.Readers.{is_close_brace, is_semicolon, is_name, name_at}
-use Rattle.sb_declare.specs.Specified.{reading}
-use Rattle.sb_declare.proofs.MemberDeepens.{text_deepens}
-use Rattle.sb_declare.proofs.SpecifierDeepens.{barred_token_at}
-use Rattle.sb_decl.specs.Readers.{Body, First, Parts, only_label, expression, in_parentheses, semicolon, block, evaluated, empty, other, selected, switched, repeated, done_first, optional, gone}
-use Rattle.sb_decl.specs.Readers.{broken, continued, returned, labelled, case_of, default_of, stepped, iterated, by_keyword, unlabelled, by_name, statement}
+use Rattle.sb_sal.proofs.Lowered.{not_unexpected, expects, takes}
+use Rattle.sb_specifier.specs.Readers.{is_close_brace, is_semicolon, is_name, name_at}
+use Rattle.sb_specifier.specs.Specified.{reading}
+use Rattle.sb_declare.proofs.deepening.Members.{text_deepens}
+use Rattle.sb_declare.proofs.deepening.Specifiers.{barred_token_at}
+use Rattle.sb_decl.specs.Readers.{Body, First, Parts, only_label, expression, in_parentheses, semicolon, block, evaluated, empty, other, selected, switched, repeated, done_first, optional, gone, broken, continued, returned, labelled, case_of, default_of, stepped, iterated, by_keyword, unlabelled, by_name, statement}
 use Rattle.sb_decl.proofs.StatementPast.{SmallParts}
 use Rattle.sb_decl.proofs.StatementEnters.{name_begins, statement_enters}
 
@@ -37,9 +36,6 @@ pub record DeepParts (n : ℕ) (part : ℕ → Parts) : Type 0 where
 
 pub unknown_not_deep : unknown_before ≡ too_deep → ⊥
 unknown_not_deep e = cc e
-
-unexpected_not_deep : unexpected ≡ too_deep → ⊥
-unexpected_not_deep e = cc e
 
 pub least : (n m : ℕ) → is_zero n ≡ true → n ≤ m
 least zero m h = omega arith
@@ -220,7 +216,7 @@ module _ (texts : List (List ℕ)) (n : ℕ) (part : ℕ → Parts) (Inner : Dee
   unlabelled_deepens : (types : List Name) → Deepens n (λ m. unlabelled texts m (part m) types)
   unfolding unlabelled
   unlabelled_deepens types =
-      choosing n _ _ _ (label_deepens types unknown_before unknown_not_deep) (choosing n _ _ _ (label_deepens types unexpected unexpected_not_deep) (evaluated_deepens types))
+      choosing n _ _ _ (label_deepens types unknown_before unknown_not_deep) (choosing n _ _ _ (label_deepens types unexpected not_unexpected) (evaluated_deepens types))
 
   module _ (cases : Bool) (types : List Name) where
     abbrev labelled_or_not : ℕ → Parser Token StmtTree

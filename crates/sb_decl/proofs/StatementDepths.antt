@@ -3,19 +3,20 @@ use Rattle.std.proofs.Common.{◌≡◌, ◌≤◌, ℕ, zero, suc, Bool, true, 
 use Rattle.sb_base.specs.declared.interning.Name.{Name}
 use Rattle.sb_base.specs.declared.tokens.Token.{Token}
 use Rattle.sb_parse.specs.Parser.{Outcome, Parser, stop, at_next, and_then, choose, refuse}
-use Rattle.sb_tree.specs.declared.sign.Keyword.{Keyword}
-use Rattle.sb_tree.specs.declared.sign.Keyword.TheVariants as keyword
+use Rattle.sb_sign.specs.declared.sign.Keyword.{Keyword}
+use Rattle.sb_sign.specs.declared.sign.Keyword.TheVariants as keyword
 use Rattle.sb_tree.specs.Trees.{StmtTree}
-use Rattle.sb_expr.specs.Lexicon.{Lexicon, is_keyword}
-use Rattle.sb_expr.specs.Readers.{unexpected, too_deep, is_open_brace}
-use Rattle.sb_expr.proofs.Ways.{and_second, first_fails, second_fails, and_fails}
+use Rattle.sb_lexicon.specs.Lexicon.{Lexicon, is_keyword}
+use Rattle.sb_lexicon.specs.Tokens.{unexpected, too_deep, is_open_brace}
+use Rattle.sb_parse.proofs.Ways.{and_second, first_fails, second_fails, and_fails}
 use Rattle.sb_sal.proofs.Deepening.{Past}
 use Rattle.sb_sal.proofs.Lowered.{raised}
-use Rattle.sb_declare.specs.declared.seat.Seat.TheVariants as seat
-use Rattle.sb_declare.specs.Readers.{Declarations, is_semicolon, is_name, begins_declaration, barred, declaration_reader}
-use Rattle.sb_declare.specs.Specified.{reading}
-use Rattle.sb_declare.proofs.BarringLaws.{barred_then}
-use Rattle.sb_declare.proofs.ReaderDeepens.{declaration_reader_deepens}
+use Rattle.sb_specifier.specs.declared.seat.Seat.TheVariants as seat
+use Rattle.sb_specifier.specs.Readers.{Declarations, is_semicolon, is_name, begins_declaration, barred}
+use Rattle.sb_declare.specs.Readers.{declaration_reader}
+use Rattle.sb_specifier.specs.Specified.{reading}
+use Rattle.sb_specifier.proofs.laws.Barring.{barred_then}
+use Rattle.sb_declare.proofs.deepening.Readers.{declaration_reader_deepens}
 use Rattle.sb_decl.specs.Readers.{Body, begins_keyword_statement, is_label_keyword, begins_statement, names_declaration, item, declaration_item, statement_item, named_item, statements}
 use Rattle.sb_decl.proofs.Chains.{heads_of, heads_no_declaration}
 use Rattle.sb_decl.proofs.BlockLaws.{signs}

@@ -4,30 +4,30 @@ use Rattle.std.specs.Option.{option_map_or}
 use Rattle.sb_base.specs.declared.interning.Name.{Name}
 use Rattle.sb_base.specs.declared.tokens.Token.{Token}
 use Rattle.sb_parse.specs.Parser.{Parser, at_next, pure, ◌>>=◌, choose, guard, token}
-use Rattle.sb_tree.specs.declared.sign.Keyword.{Keyword}
-use Rattle.sb_tree.specs.declared.sign.Keyword.TheVariants as keyword
-use Rattle.sb_tree.specs.Signs as sign
+use Rattle.sb_sign.specs.declared.sign.Keyword.{Keyword}
+use Rattle.sb_sign.specs.declared.sign.Keyword.TheVariants as keyword
+use Rattle.sb_sign.specs.Signs as sign
 use Rattle.sb_tree.specs.Plain.{decl_list}
 use Rattle.sb_tree.specs.Trees as tree
 use Rattle.sb_tree.specs.Trees.{StmtTree}
-use Rattle.sb_expr.specs.Descent.{at_second, choose_second}
+use Rattle.sb_parse.specs.Descent.{at_second, choose_second}
 use Rattle.sb_expr.specs.Expression.{Sequence}
-use Rattle.sb_expr.specs.Lexicon.{Lexicon, is_keyword, is_type_name}
-use Rattle.sb_expr.specs.Readers.{unexpected, too_deep, unknown_before, is_zero, is_open_brace, is_colon, begins_expr, expr_reader}
-use Rattle.sb_expr.proofs.Ways.{second_fails, and_second, or_first, or_second}
+use Rattle.sb_lexicon.specs.Lexicon.{Lexicon, is_keyword, is_type_name}
+use Rattle.sb_expr.specs.Readers.{expr_reader}
+use Rattle.sb_lexicon.specs.Tokens.{unexpected, too_deep, unknown_before, is_zero, is_open_brace, is_colon, begins_expr}
+use Rattle.sb_parse.proofs.Ways.{second_fails, and_second, or_first, or_second}
 use Rattle.sb_sal.specs.Spellings.{begins_note, is_listed, is_unlisted}
 use Rattle.sb_sal.specs.Readers.{is_bare}
 use Rattle.sb_sal.proofs.Deepening.{Past, Shrinks, past_bind, enters, shrinks_pure, shrinks_refuse, shrinks_token, shrinks_then, shrinks_choose, shrinks_second, shrinks_guard}
-use Rattle.sb_declare.specs.Readers.{with_text, is_semicolon, is_name, declaration_reader}
-use Rattle.sb_declare.specs.Specified.{reading}
-use Rattle.sb_declare.proofs.MemberDeepens.{shrinks_text, past_front}
-use Rattle.sb_declare.proofs.ReaderDeepens.{declaration_reader_deepens}
-use Rattle.sb_decl.specs.Readers.{Body, Parts, first_place, evaluated, selected, repeated, done_first, iterated, switched, labelled, case_of, default_of, begins_keyword_statement, is_label_keyword, begins_statement}
-use Rattle.sb_decl.specs.Readers.{room_for, crowded, declared, first, by_keyword, unlabelled, by_name, statement, declaration_item, statement_item, only_label, named_declaration, named_item, item, statements}
+use Rattle.sb_parse.specs.Texts.{with_text}
+use Rattle.sb_specifier.specs.Readers.{is_semicolon, is_name}
+use Rattle.sb_declare.specs.Readers.{declaration_reader}
+use Rattle.sb_specifier.specs.Specified.{reading}
+use Rattle.sb_declare.proofs.deepening.Members.{shrinks_text, past_front}
+use Rattle.sb_declare.proofs.deepening.Readers.{declaration_reader_deepens}
+use Rattle.sb_decl.specs.Readers.{Body, Parts, first_place, evaluated, selected, repeated, done_first, iterated, switched, labelled, case_of, default_of, begins_keyword_statement, is_label_keyword, begins_statement, room_for, crowded, declared, first, by_keyword, unlabelled, by_name, statement, declaration_item, statement_item, only_label, named_declaration, named_item, item, statements}
 use Rattle.sb_decl.proofs.Chains.{same_as_itself}
-use Rattle.sb_decl.proofs.StatementPast.{past_choice, past_guard, barred_shrinks, expr_past, name_begins_expr, SmallParts, label_shrinks, label_past}
-use Rattle.sb_decl.proofs.StatementPast.{crowded_shrinks, semicolon_shrinks, block_shrinks, block_past, evaluated_shrinks, evaluated_past, labelled_past}
-use Rattle.sb_decl.proofs.StatementPast.{selected_past, switched_past, repeated_past, done_past, gone_past, broken_past, continued_past, returned_past, case_past, default_past, empty_past, iterated_past, statement_shrinks}
+use Rattle.sb_decl.proofs.StatementPast.{past_choice, past_guard, barred_shrinks, expr_past, name_begins_expr, SmallParts, label_shrinks, label_past, crowded_shrinks, semicolon_shrinks, block_shrinks, block_past, evaluated_shrinks, evaluated_past, labelled_past, selected_past, switched_past, repeated_past, done_past, gone_past, broken_past, continued_past, returned_past, case_past, default_past, empty_past, iterated_past, statement_shrinks}
 
 -- ---- a token with which none of the kinds of statements begins
 
@@ -47,7 +47,7 @@ none_begins w cases t words labels brace semicolon named expr = rw (no_kind begi
     by_cases false off = refl
     by_cases true off = no_kind is_label_keyword (sign.keyword_of w.texts t) off
 
--- the next token is of one of the kinds
+-- where the next token is of none of the kinds, no statement begins
 none_next : (w : Lexicon) (cases : Bool) (ts : List Token) → ((k : Keyword) → begins_keyword_statement k ≡ true → at_next (is_keyword w k) ts ≡ false)
     → ((k : Keyword) → is_label_keyword k ≡ true → at_next (λ t. cases && is_keyword w k t) ts ≡ false)
     → at_next (is_open_brace w) ts ≡ false → at_next (is_semicolon w) ts ≡ false → at_next (is_name w) ts ≡ false → at_next (begins_expr w) ts ≡ false → at_next (begins_statement w cases) ts ≡ false

@@ -5,27 +5,27 @@ use Rattle.sb_base.specs.declared.interning.Name.{Name}
 use Rattle.sb_base.specs.declared.refusals.Place.{Place}
 use Rattle.sb_base.specs.declared.tokens.Token.{Token}
 use Rattle.sb_parse.specs.Parser.{Outcome, Parser, done, stop, at_next, ◌>>=◌, pure, token, taken, choose, guard, refuse, looped}
-use Rattle.sb_tree.specs.declared.sign.Keyword.TheVariants as keyword
+use Rattle.sb_sign.specs.declared.sign.Keyword.TheVariants as keyword
 use Rattle.sb_tree.specs.Plain.{stmt_list}
-use Rattle.sb_tree.specs.Signs as sign
+use Rattle.sb_sign.specs.Signs as sign
 use Rattle.sb_tree.specs.Trees as tree
 use Rattle.sb_tree.specs.Trees.{ExprTree, StmtTree}
-use Rattle.sb_expr.specs.Descent.{descent}
+use Rattle.sb_parse.specs.Descent.{descent}
 use Rattle.sb_expr.specs.Expression.{Conditional, Sequence}
-use Rattle.sb_expr.specs.Lexicon.{Lexicon, is_among, name_of, named_operand, operand_of, is_returned, is_keyword, is_type_name}
-use Rattle.sb_expr.specs.Readers.{unexpected, too_deep, bad_arguments, volatile, is_zero, is_open, is_close, is_open_brace, is_colon, begins_expr, expr_reader}
-use Rattle.sb_expr.proofs.Ways.{or_first}
+use Rattle.sb_lexicon.specs.Lexicon.{Lexicon, is_among, name_of, named_operand, operand_of, is_returned, is_keyword, is_type_name}
+use Rattle.sb_expr.specs.Readers.{expr_reader}
+use Rattle.sb_lexicon.specs.Tokens.{unexpected, too_deep, bad_arguments, volatile, is_zero, is_open, is_close, is_open_brace, is_colon, begins_expr}
+use Rattle.sb_parse.proofs.Ways.{or_first}
 use Rattle.sb_sal.specs.Readers.{is_bare}
 use Rattle.sb_sal.specs.Spellings.{is_listed}
-use Rattle.sb_sal.proofs.Deepening.{Past, read_past, stopped_past, Shrinks, past_bind, enters, enters_taken, shrinks_pure}
-use Rattle.sb_sal.proofs.Deepening.{shrinks_refuse, shrinks_token, shrinks_taken, shrinks_then, shrinks_choose, shrinks_second, shrinks_guard, shrinks_looped}
+use Rattle.sb_sal.proofs.Deepening.{Past, read_past, stopped_past, Shrinks, past_bind, enters, enters_taken, shrinks_pure, shrinks_refuse, shrinks_token, shrinks_taken, shrinks_then, shrinks_choose, shrinks_second, shrinks_guard, shrinks_looped}
 use Rattle.sb_sal.proofs.ExprDeepening.{expr_deepens}
-use Rattle.sb_declare.specs.declared.seat.Seat.TheVariants as seat
-use Rattle.sb_declare.specs.Readers.{with_text, is_close_brace, is_semicolon, is_name, name_at, barred}
-use Rattle.sb_declare.specs.Specified.{reading}
-use Rattle.sb_declare.proofs.MemberDeepens.{shrinks_text, past_front}
-use Rattle.sb_decl.specs.Readers.{Body, First, Parts, first_place, goes_on_type, crowded, only_label, expression, in_parentheses, semicolon, block, evaluated, empty, other, selected, switched}
-use Rattle.sb_decl.specs.Readers.{repeated, done_first, optional, gone, broken, continued, returned, labelled, case_of, default_of, stepped, iterated, by_keyword, unlabelled, by_name, statement}
+use Rattle.sb_specifier.specs.declared.seat.Seat.TheVariants as seat
+use Rattle.sb_parse.specs.Texts.{with_text}
+use Rattle.sb_specifier.specs.Readers.{is_close_brace, is_semicolon, is_name, name_at, barred}
+use Rattle.sb_specifier.specs.Specified.{reading}
+use Rattle.sb_declare.proofs.deepening.Members.{shrinks_text, past_front}
+use Rattle.sb_decl.specs.Readers.{Body, First, Parts, first_place, goes_on_type, crowded, only_label, expression, in_parentheses, semicolon, block, evaluated, empty, other, selected, switched, repeated, done_first, optional, gone, broken, continued, returned, labelled, case_of, default_of, stepped, iterated, by_keyword, unlabelled, by_name, statement}
 
 -- ---- ways to get past a token
 
@@ -77,7 +77,7 @@ pub record SmallParts (part : Parts) : Type 0 where
   pub item : (cases : Bool) (b : Body) → Shrinks (part.item cases b)
   pub first : (types : List Name) → Shrinks (part.first types)
 
--- no reader of labels only
+-- the reader of a name that begins only a label
 pub label_shrinks : {A : Type 0} (n : ℕ) (w : Lexicon) → Shrinks {A = A} (only_label n w)
 unfolding only_label
 label_shrinks n w = shrinks_then _ _ (shrinks_token unexpected (is_name w)) (λ t. shrinks_refuse n)

@@ -4,34 +4,32 @@ use Rattle.std.specs.Option.{option_map_or}
 use Rattle.sb_base.specs.declared.interning.Name.{Name}
 use Rattle.sb_base.specs.declared.tokens.Token.{Token}
 use Rattle.sb_parse.specs.Parser.{Outcome, Parser, stop, at_next, and_then, ◌>>=◌, pure, token, choose, refuse}
-use Rattle.sb_tree.specs.declared.sign.Keyword.{Keyword}
-use Rattle.sb_tree.specs.declared.sign.Keyword.TheVariants as keyword
+use Rattle.sb_sign.specs.declared.sign.Keyword.{Keyword}
+use Rattle.sb_sign.specs.declared.sign.Keyword.TheVariants as keyword
 use Rattle.sb_tree.specs.Plain.{decl_list}
 use Rattle.sb_tree.specs.Trees as tree
 use Rattle.sb_tree.specs.Trees.{StmtTree}
 use Rattle.sb_expr.specs.Expression.{Sequence}
-use Rattle.sb_expr.specs.Lexicon.{Lexicon, is_keyword, is_type_name, is_type_keyword, is_type_word}
-use Rattle.sb_expr.specs.Readers.{unexpected, too_deep, is_open_brace, is_floating, is_complex, is_union, begins_expr}
-use Rattle.sb_expr.specs.Words.{Nothing}
-use Rattle.sb_expr.proofs.Lexemes.{keyword_is, is_kind}
-use Rattle.sb_expr.proofs.Starts.{expr_starts}
-use Rattle.sb_expr.proofs.Ways.{first_fails, second_fails, and_fails}
-use Rattle.sb_expr.proofs.Wider.{Held, short, same, Wider}
+use Rattle.sb_lexicon.specs.Lexicon.{Lexicon, is_keyword, is_type_name, is_type_keyword, is_type_word}
+use Rattle.sb_lexicon.specs.SpecifierReaders.{is_floating, is_complex, is_union}
+use Rattle.sb_lexicon.specs.Tokens.{unexpected, too_deep, is_open_brace, begins_expr}
+use Rattle.sb_lexicon.specs.Words.{Nothing}
+use Rattle.sb_lexicon.proofs.Lexemes.{keyword_is, is_kind}
+use Rattle.sb_expr.proofs.widening.Starts.{expr_starts}
+use Rattle.sb_parse.proofs.Ways.{first_fails, second_fails, and_fails}
+use Rattle.sb_lexicon.proofs.Wider.{Held, short, same, Wider}
 use Rattle.sb_sal.specs.Spellings.{begins_note, arguments_in, word_of, is_listed, is_unlisted, may_stand}
-use Rattle.sb_declare.specs.declared.seat.Seat.TheVariants as seat
-use Rattle.sb_declare.specs.Readers.{Declarations, with_front, with_text, is_semicolon, is_name, begins_declaration, barred, declaration_reader}
-use Rattle.sb_declare.specs.Specified.{reading, bearer_at}
-use Rattle.sb_declare.proofs.Choices.{and_then_assoc}
-use Rattle.sb_declare.proofs.BarringLaws.{barred_then, barred_refuses}
-use Rattle.sb_decl.specs.Readers.{Body, First, Parts, begins_keyword_statement, is_label_keyword, begins_statement, names_declaration, first_place, expression, semicolon}
-use Rattle.sb_decl.specs.Readers.{evaluated, declared, first, block, by_keyword, statement, declaration_item, statement_item, item, no_statement}
+use Rattle.sb_sal.proofs.NoteWider.{fails_too}
+use Rattle.sb_specifier.specs.declared.seat.Seat.TheVariants as seat
+use Rattle.sb_specifier.specs.Readers.{Declarations, is_semicolon, is_name, begins_declaration, barred}
+use Rattle.sb_parse.specs.Texts.{with_front, with_text}
+use Rattle.sb_declare.specs.Readers.{declaration_reader}
+use Rattle.sb_specifier.specs.Specified.{reading, bearer_at}
+use Rattle.sb_parse.proofs.Choices.{and_then_assoc}
+use Rattle.sb_specifier.proofs.laws.Barring.{barred_then, barred_refuses}
+use Rattle.sb_decl.specs.Readers.{Body, First, Parts, begins_keyword_statement, is_label_keyword, begins_statement, names_declaration, first_place, expression, semicolon, evaluated, declared, first, block, by_keyword, statement, declaration_item, statement_item, item, no_statement}
 
 -- ---- tests that fail
-
--- what fails at a token fails at the next one
-pub fails_too : (test other : Token → Bool) → ((t : Token) → test t ≡ false → other t ≡ false) → (ts : List Token) → at_next test ts ≡ false → at_next other ts ≡ false
-fails_too test other to [] h = refl
-fails_too test other to (t ∷ ts) h = to t h
 
 -- the second of two outcomes
 pub second_so : {A : Type 0} (b : Bool) (x y o : Outcome Token A) → b ≡ false → y ≡ o → (if b then x else y) ≡ o

@@ -5,30 +5,32 @@ use Rattle.sb_base.specs.declared.interning.Name.{Name}
 use Rattle.sb_base.specs.declared.refusals.Place.{Place}
 use Rattle.sb_base.specs.declared.tokens.Token.{Token}
 use Rattle.sb_parse.specs.Parser.{Outcome, Parser, done, stop, at_next, and_then, ◌>>=◌, refuse, token, choose, guard}
-use Rattle.sb_tree.specs.declared.sign.Keyword.{Keyword}
-use Rattle.sb_tree.specs.declared.sign.Keyword.TheVariants as keyword
-use Rattle.sb_tree.specs.Signs as sign
+use Rattle.sb_sign.specs.declared.sign.Keyword.{Keyword}
+use Rattle.sb_sign.specs.declared.sign.Keyword.TheVariants as keyword
+use Rattle.sb_sign.specs.Signs as sign
 use Rattle.sb_tree.specs.Trees as tree
 use Rattle.sb_tree.specs.Trees.{StmtTree}
-use Rattle.sb_expr.specs.Descent.{choose_second}
+use Rattle.sb_parse.specs.Descent.{choose_second}
 use Rattle.sb_expr.specs.Expression.{Conditional, Sequence}
-use Rattle.sb_expr.specs.Lexicon.{Lexicon, is_keyword, is_type_name}
-use Rattle.sb_expr.specs.Readers.{unexpected, too_deep, bad_arguments, unknown_before, volatile, is_zero, is_open, is_close, is_colon, is_open_brace, begins_expr}
-use Rattle.sb_expr.proofs.Lexemes.{keyword_is}
-use Rattle.sb_expr.proofs.Ways.{or_first, or_second, and_first, and_second}
+use Rattle.sb_lexicon.specs.Lexicon.{Lexicon, is_keyword, is_type_name}
+use Rattle.sb_lexicon.specs.Tokens.{unexpected, too_deep, bad_arguments, unknown_before, volatile, is_zero, is_open, is_close, is_colon, is_open_brace, begins_expr}
+use Rattle.sb_lexicon.proofs.Lexemes.{keyword_is}
+use Rattle.sb_parse.proofs.Ways.{or_first, or_second, and_first, and_second}
 use Rattle.sb_sal.specs.Readers as notes
 use Rattle.sb_sal.specs.Reasons.{IsBadArguments, takes_nothing, takes_something, other_arguments}
 use Rattle.sb_sal.specs.Spellings.{begins_note, is_listed, is_unlisted}
 use Rattle.sb_sal.specs.declared.bearer.Bearer.TheVariants as bearer
-use Rattle.sb_sal.proofs.Explaining.{next_is}
-use Rattle.sb_declare.specs.declared.seat.Seat.TheVariants as seat
-use Rattle.sb_declare.specs.Specified.{reading}
-use Rattle.sb_declare.specs.Reasons.{in_notes, feature}
-use Rattle.sb_declare.specs.Readers.{with_text, is_semicolon, is_name, name_at, is_close_brace, begins_declaration, barred, declaration_reader}
-use Rattle.sb_declare.proofs.Telling.{Reasons, Tells, Telling, TellingAt, tells_behind, one_by_one, giving, mapping, stopping, refusing, a_token, token_turn, a_value, by_choice, choosing, choosing_any, turning, text_telling}
-use Rattle.sb_declare.proofs.Reasoned.{reasons, expr_telling}
-use Rattle.sb_declare.proofs.Shown.{barred_telling}
-use Rattle.sb_declare.proofs.DeclarationTelling.{declarations_telling}
+use Rattle.sb_parse.proofs.Explaining.{next_is}
+use Rattle.sb_specifier.specs.declared.seat.Seat.TheVariants as seat
+use Rattle.sb_specifier.specs.Specified.{reading}
+use Rattle.sb_specifier.specs.Reasons.{in_notes, feature}
+use Rattle.sb_parse.specs.Texts.{with_text}
+use Rattle.sb_specifier.specs.Readers.{is_semicolon, is_name, name_at, is_close_brace, begins_declaration, barred}
+use Rattle.sb_declare.specs.Readers.{declaration_reader}
+use Rattle.sb_parse.proofs.Telling.{Reasons, Tells, Telling, TellingAt, tells_behind, one_by_one, giving, mapping, stopping, refusing, a_token, token_turn, a_value, by_choice, choosing, choosing_any, turning, text_telling}
+use Rattle.sb_specifier.proofs.telling.Reasons.{reasons, expr_telling}
+use Rattle.sb_specifier.proofs.telling.Shown.{barred_telling}
+use Rattle.sb_declare.proofs.telling.Declarations.{declarations_telling}
 use Rattle.sb_decl.specs.Readers.{Body, First, Parts, begins_statement, begins_keyword_statement, is_label_keyword, expression, in_parentheses, semicolon, block, evaluated, empty, declared, other, selected, switched, repeated, done_first, optional, first, gone, broken, continued, returned, labelled, case_of, default_of, stepped, iterated, by_keyword, only_label, unlabelled, by_name, statement, declaration_item, statement_item, names_declaration, room_for, crowded, goes_on_type, named_declaration, named_item, item, whole_parts, statements}
 use Rattle.sb_decl.specs.Reasons.{IsUnitReason, in_declaration, deeper, deeper_type, deeper_note, no_annotation, no_text}
 
@@ -45,10 +47,10 @@ module _ (texts : List (List ℕ)) where
   further xs front bad _ (no_annotation now before t e h k) = no_annotation now (xs ++ before) t (longer xs before (t ∷ []) front e) h k
   further xs front bad _ no_text = no_text
 
-  abbrev pub unit_reasons : Reasons
-  unit_reasons = record { why = IsUnitReason texts; further = further; plain = λ front bad. no_text }
+  abbrev pub unit_reasons : Reasons Token
+  unit_reasons = record { number = unexpected; why = IsUnitReason texts; further = further; plain = λ front bad. no_text }
 
-  abbrev W : Reasons
+  abbrev W : Reasons Token
   W = unit_reasons
 
   -- what tells of declarations tells of units

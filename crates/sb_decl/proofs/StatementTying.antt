@@ -1,24 +1,20 @@
 -- The readers of statements of each depth keep the laws; and what that comes to in the grammar's words.
-use Rattle.std.proofs.Common.{◌≡◌, ◌≤◌, ℕ, zero, suc, max, Bool, true, false, not, List, [], ◌∷◌, refl, ap, arith}
-use Rattle.std.proofs.Math.Nat.{le-max_left, le-max_right}
+use Rattle.std.proofs.Common.{◌≡◌, ◌≤◌, ℕ, zero, suc, Bool, true, false, not, List, [], ◌∷◌, refl, ap, arith}
 use Rattle.sb_base.specs.declared.interning.Name.{Name}
 use Rattle.sb_base.specs.declared.tokens.Token.{Token}
 use Rattle.sb_parse.specs.Parser.{at_next, refuse}
 use Rattle.sb_parse.specs.Lawful.{OnHead}
-use Rattle.sb_parse.specs.Read.{HasOneTree}
 use Rattle.sb_parse.proofs.Heads.{headed}
-use Rattle.sb_parse.proofs.Reading.{one_tree}
-use Rattle.sb_tree.specs.declared.sign.Mark.TheVariants as mark
+use Rattle.sb_sign.specs.declared.sign.Mark.TheVariants as mark
 use Rattle.sb_tree.specs.Trees.{depth_of_stmt}
-use Rattle.sb_expr.specs.Readers.{too_deep}
-use Rattle.sb_expr.proofs.Ways.{Refuses, one_refuses, both_refuse}
-use Rattle.sb_declare.specs.declared.seat.Seat.TheVariants as seat
-use Rattle.sb_declare.specs.Specified.{reading}
-use Rattle.sb_declare.specs.Readers.{is_close_brace, barred}
-use Rattle.sb_declare.proofs.BarringLaws.{barred_refuses}
-use Rattle.sb_declare.proofs.Choices.{refusing}
+use Rattle.sb_lexicon.specs.Tokens.{too_deep}
+use Rattle.sb_parse.proofs.Ways.{Refuses, one_refuses, both_refuse}
+use Rattle.sb_specifier.specs.declared.seat.Seat.TheVariants as seat
+use Rattle.sb_specifier.specs.Specified.{reading}
+use Rattle.sb_specifier.specs.Readers.{is_close_brace, barred}
+use Rattle.sb_specifier.proofs.laws.Barring.{barred_refuses}
+use Rattle.sb_parse.proofs.Choices.{refusing}
 use Rattle.sb_decl.specs.Readers.{Body, begins_statement, statements}
-use Rattle.sb_decl.specs.Statement.{IsStatement, IsBlock}
 use Rattle.sb_decl.proofs.Chains.{AMark}
 use Rattle.sb_decl.proofs.Laws.{plain, more_body, OneItem, LawfulStatements}
 use Rattle.sb_decl.proofs.BlockLaws.{some_stmt, begins_item, item_off, item_begins, block_law}
@@ -54,19 +50,3 @@ module _ (texts : List (List ℕ)) where
         item = λ cases b. item_law texts below (statements texts below) cases b S (items_at below false S);
         first = λ types. first_law texts below (statements texts below) types;
       }
-
-  -- ---- in the grammar's words
-
-  pub one_statement : (cases : Bool) (types : List Name) → HasOneTree (IsStatement texts cases types)
-  one_statement cases types ts s r is also =
-      let some : 1 ≤ depth_of_stmt s = some_stmt s in
-      let first : depth_of_stmt s ≤ max (depth_of_stmt s) (depth_of_stmt r) = le-max_left (depth_of_stmt s) (depth_of_stmt r) in
-      let second : depth_of_stmt r ≤ max (depth_of_stmt s) (depth_of_stmt r) = le-max_right (depth_of_stmt s) (depth_of_stmt r) in
-      one_tree ((lawful_statements (max (depth_of_stmt s) (depth_of_stmt r)) (omega arith)).statement cases types) ts s r (is, first) (also, second)
-
-  pub one_block : (cases : Bool) (types : List Name) → HasOneTree (IsBlock texts cases types)
-  one_block cases types ts s r is also =
-      let some : 1 ≤ depth_of_stmt s = some_stmt s in
-      let first : depth_of_stmt s ≤ max (depth_of_stmt s) (depth_of_stmt r) = le-max_left (depth_of_stmt s) (depth_of_stmt r) in
-      let second : depth_of_stmt r ≤ max (depth_of_stmt s) (depth_of_stmt r) = le-max_right (depth_of_stmt s) (depth_of_stmt r) in
-      one_tree ((lawful_statements (max (depth_of_stmt s) (depth_of_stmt r)) (omega arith)).block cases types) ts s r (is, first) (also, second)

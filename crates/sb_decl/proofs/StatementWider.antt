@@ -3,21 +3,24 @@ use Rattle.std.proofs.Common.{◌≡◌, ◌≤◌, ℕ, zero, suc, Bool, true, 
 use Rattle.sb_base.specs.declared.interning.Name.{Name}
 use Rattle.sb_base.specs.declared.tokens.Token.{Token}
 use Rattle.sb_parse.specs.Parser.{Outcome, done, stop, at_next, and_then, pure, choose, refuse}
-use Rattle.sb_tree.specs.declared.sign.Keyword.TheVariants as keyword
+use Rattle.sb_sign.specs.declared.sign.Keyword.TheVariants as keyword
 use Rattle.sb_tree.specs.Trees as tree
 use Rattle.sb_tree.specs.Trees.{StmtTree}
 use Rattle.sb_tree.specs.Plain.{decl_list}
-use Rattle.sb_expr.specs.Lexicon.{Lexicon, is_keyword, is_type_name}
-use Rattle.sb_expr.specs.Readers.{unexpected, too_deep, bad_arguments, volatile, is_zero, is_open}
-use Rattle.sb_expr.proofs.Depths.{within_room}
-use Rattle.sb_expr.proofs.Ways.{and_first, and_second}
-use Rattle.sb_expr.proofs.Wider.{Held, short, same, Wider, room_wider, by_choice, alike}
+use Rattle.sb_lexicon.specs.Lexicon.{Lexicon, is_keyword, is_type_name}
+use Rattle.sb_lexicon.specs.Tokens.{unexpected, too_deep, bad_arguments, volatile, is_zero, is_open}
+use Rattle.sb_lexicon.proofs.Depths.{within_room}
+use Rattle.sb_parse.proofs.Ways.{and_first, and_second}
+use Rattle.sb_lexicon.proofs.Wider.{Held, short, same, Wider, room_wider, by_choice, alike}
 use Rattle.sb_sal.specs.Readers.{is_bare}
 use Rattle.sb_sal.specs.Spellings.{begins_note, is_listed, is_unlisted}
-use Rattle.sb_declare.specs.declared.seat.Seat.TheVariants as seat
-use Rattle.sb_declare.specs.Readers.{with_front, is_specifier_word, is_name, begins_declaration, barred, declaration_at, declaration_reader, parts}
-use Rattle.sb_declare.specs.Specified.{reading}
-use Rattle.sb_declare.proofs.DeclarationDepths.{declaration_reader_wider}
+use Rattle.sb_specifier.specs.declared.seat.Seat.TheVariants as seat
+use Rattle.sb_parse.specs.Texts.{with_front}
+use Rattle.sb_specifier.specs.Readers.{is_specifier_word, is_name, begins_declaration, barred}
+use Rattle.sb_declare.specs.Readers.{declaration_at, declaration_reader}
+use Rattle.sb_declarator.specs.Readers.{parts}
+use Rattle.sb_specifier.specs.Specified.{reading}
+use Rattle.sb_declare.proofs.widening.Readers.{declaration_reader_wider}
 use Rattle.sb_decl.specs.Readers.{Body, Parts, names_declaration, room_for, goes_on_type, crowded, declared, first_place, declaration_item, named_declaration, statements}
 use Rattle.sb_decl.proofs.Beginning.{name_specifies_none}
 use Rattle.sb_decl.proofs.CrowdedWider.{Alike, deep, stops, behind_bare, behind_applied}

@@ -5,27 +5,29 @@ use Rattle.sb_base.specs.declared.interning.Name.{Name}
 use Rattle.sb_base.specs.declared.refusals.Place.{Place}
 use Rattle.sb_base.specs.declared.tokens.Token.{Token}
 use Rattle.sb_parse.specs.Parser.{Outcome, Parser, done, stop, at_next, and_then, ◌>>=◌, pure, token, taken, taken_as, choose, refuse, loop, looped}
-use Rattle.sb_tree.specs.declared.sign.Keyword.{Keyword}
-use Rattle.sb_tree.specs.declared.sign.Keyword.TheVariants as keyword
-use Rattle.sb_tree.specs.Signs as sign
+use Rattle.sb_sign.specs.declared.sign.Keyword.{Keyword}
+use Rattle.sb_sign.specs.declared.sign.Keyword.TheVariants as keyword
+use Rattle.sb_sign.specs.Signs as sign
 use Rattle.sb_tree.specs.Trees as tree
 use Rattle.sb_tree.specs.Trees.{TypeTree}
-use Rattle.sb_expr.specs.Descent.{descent}
-use Rattle.sb_expr.specs.Lexicon.{Lexicon, name_of, is_keyword, is_type_name, is_type_keyword}
-use Rattle.sb_expr.specs.Readers.{unexpected, too_deep, volatile, is_open, is_star}
-use Rattle.sb_expr.specs.Words.{Whole}
-use Rattle.sb_expr.proofs.Lexemes.{type_name_no_keyword}
-use Rattle.sb_expr.proofs.Ways.{first_fails, second_fails}
+use Rattle.sb_parse.specs.Descent.{descent}
+use Rattle.sb_lexicon.specs.Lexicon.{Lexicon, name_of, is_keyword, is_type_name, is_type_keyword}
+use Rattle.sb_lexicon.specs.Tokens.{unexpected, too_deep, volatile, is_open, is_star}
+use Rattle.sb_lexicon.specs.Words.{Whole}
+use Rattle.sb_lexicon.proofs.Lexemes.{type_name_no_keyword}
+use Rattle.sb_parse.proofs.Ways.{first_fails, second_fails}
 use Rattle.sb_sal.specs.declared.bearer.Bearer.TheVariants as bearer
 use Rattle.sb_sal.specs.Readers.{notes_reader}
 use Rattle.sb_sal.specs.Spellings.{may_stand}
 use Rattle.sb_sal.proofs.NoteWider.{no_notes}
-use Rattle.sb_declare.specs.declared.seat.Seat.TheVariants as seat
-use Rattle.sb_declare.specs.Specified.{reading, Specified, unspecified, saying, base_of, declares_function, bearer_of}
-use Rattle.sb_declare.specs.Readers as declaring
-use Rattle.sb_declare.specs.Readers.{Declarator, Opening, with_front, is_semicolon, is_name, name_at, is_storage_keyword, is_specifier_word, ends_nameless, declarators}
-use Rattle.sb_declare.specs.Readers.{declarator_at, specified, keyword_specifiers, defined, specifiers, names_type, nameless, declarator_in, rest_of_declaration, declaration_at}
-use Rattle.sb_declare.proofs.BarredWider.{is_word, specified_by, by_specifier}
+use Rattle.sb_specifier.specs.declared.seat.Seat.TheVariants as seat
+use Rattle.sb_specifier.specs.Specified.{reading, Specified, unspecified, saying, base_of, declares_function, bearer_of}
+use Rattle.sb_specifier.specs.Readers.{Parts, completed, Declarator, is_semicolon, is_name, name_at, is_storage_keyword, is_specifier_word, ends_nameless, specified, keyword_specifiers, defined, specifiers, names_type}
+use Rattle.sb_declarator.specs.Readers as declaring
+use Rattle.sb_declare.specs.Readers.{judged, nameless_of, Opening, nameless, declarator_in, rest_of_declaration, declaration_at}
+use Rattle.sb_parse.specs.Texts.{with_front}
+use Rattle.sb_declarator.specs.Readers.{declarators, declarator_at}
+use Rattle.sb_declare.proofs.widening.Barred.{is_word, specified_by, by_specifier}
 use Rattle.sb_decl.specs.Readers.{goes_on_type}
 use Rattle.sb_decl.proofs.StatementStarts.{second_so}
 use Rattle.sb_decl.proofs.CrowdedWider.{Alike, deep, stops, first_so, go_on, behind_specifiers, stops_in_specifiers}
@@ -41,7 +43,7 @@ module _ (w : Lexicon) (ts : List Token) (star : at_next (is_star w) ts ≡ fals
       by_value None h = refl
       by_value (Some n) h = absurd (cc h)
 
-  module _ (functions : Bool) (below : ℕ) (part : ℕ → declaring.Parts) where
+  module _ (functions : Bool) (below : ℕ) (part : ℕ → Parts) where
     one_starts : (room : ℕ) (rest : ℕ → Parser Token Declarator) → declarator_at w functions false below part room rest ts ≡ stop unexpected (length ts)
     unfolding declarator_at declaring.direct declaring.first declaring.name_or_none
     one_starts room rest =
@@ -56,7 +58,7 @@ module _ (w : Lexicon) (ts : List Token) (star : at_next (is_star w) ts ≡ fals
 
 -- ---- specifiers that begin with a typedef name
 
-module _ (texts : List (List ℕ)) (types : List Name) (k : ℕ) (part : ℕ → declaring.Parts) (t : Token) (is : is_type_name (reading texts types) t ≡ true) where
+module _ (texts : List (List ℕ)) (types : List Name) (k : ℕ) (part : ℕ → Parts) (t : Token) (is : is_type_name (reading texts types) t ≡ true) where
   abbrev w : Lexicon
   w = reading texts types
 
@@ -67,7 +69,7 @@ module _ (texts : List (List ℕ)) (types : List Name) (k : ℕ) (part : ℕ →
   so_far = saying (Whole base) (unspecified types)
 
   abbrev complete : Specified → Parser Token (Specified × TypeTree)
-  complete s = declaring.completed texts seat.Scope (suc k) part s (base_of s)
+  complete s = completed texts seat.Scope (suc k) part s (base_of s)
 
   abbrev with_name : Token → Parser Token Specified
   with_name t = keyword_specifiers texts seat.Scope (suc k) part (saying (Whole (tree.Defined t.text t.place)) (unspecified types))
@@ -114,7 +116,7 @@ module _ (texts : List (List ℕ)) (types : List Name) (k : ℕ) (part : ℕ →
     opened_so noted shown = record { outer = types; notes = []; noted = noted; specified = so_far; base = base; count = length shown }
 
     abbrev judging : List Token → Declarator × List Token → Parser Token Declarator
-    judging shown d = declaring.judged texts (suc k) part (opened_so [] shown) (bearer_of (declares_function d.0.pieces)) (length shown + length d.1) d.0
+    judging shown d = judged texts (suc k) part (opened_so [] shown) (bearer_of (declares_function d.0.pieces)) (length shown + length d.1) d.0
 
     declarator_stops : (shown : List Token) → declarator_in texts (suc k) part (opened_so [] shown) types base (length shown) ts ≡ stop unexpected (length ts)
     unfolding declarator_in
@@ -125,9 +127,9 @@ module _ (texts : List (List ℕ)) (types : List Name) (k : ℕ) (part : ℕ →
     nameless_stops shown = no_semicolon ts ends
       where
         no_semicolon : (ts : List Token) → at_next (is_semicolon w) ts ≡ false
-            → and_then (token unexpected (is_semicolon w) ts) (λ c. pure (declaring.nameless_of texts (suc k) part (opened_so [] shown) t.place)) ≡ stop unexpected (length ts)
+            → and_then (token unexpected (is_semicolon w) ts) (λ c. pure (nameless_of texts (suc k) part (opened_so [] shown) t.place)) ≡ stop unexpected (length ts)
         no_semicolon [] h = refl
-        no_semicolon (u ∷ us) h = ap (λ b. and_then (if b then done u us else stop unexpected (suc (length us))) (λ c. pure (declaring.nameless_of texts (suc k) part (opened_so [] shown) t.place))) h
+        no_semicolon (u ∷ us) h = ap (λ b. and_then (if b then done u us else stop unexpected (suc (length us))) (λ c. pure (nameless_of texts (suc k) part (opened_so [] shown) t.place))) h
 
     behind_stops : (shown : List Token) → go_on texts types (suc k) part (opened_so [] shown) ts ≡ stop unexpected (length ts)
     behind_stops shown = by_test (at_next (ends_nameless w) ts)
@@ -147,7 +149,7 @@ module _ (texts : List (List ℕ)) (types : List Name) (k : ℕ) (part : ℕ →
 
 -- ---- behind a typedef name
 
-module _ (A : Type 0) (texts : List (List ℕ)) (types : List Name) (k : ℕ) (part : ℕ → declaring.Parts) (t : Token) (is : is_type_name (reading texts types) t ≡ true) where
+module _ (A : Type 0) (texts : List (List ℕ)) (types : List Name) (k : ℕ) (part : ℕ → Parts) (t : Token) (is : is_type_name (reading texts types) t ≡ true) where
   abbrev here : Lexicon
   here = reading texts types
 

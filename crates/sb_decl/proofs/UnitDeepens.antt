@@ -1,29 +1,31 @@
 -- Where the readers of translation units stop for want of depth, deeper readers get past that token, and deeper units go on.
-use Rattle.std.proofs.Common.{◌≡◌, ◌≤◌, ℕ, zero, suc, Option, Some, None, true, false, List, [], ◌∷◌, ◌++◌, length, refl, ap, ◌∙◌, arith}
+use Rattle.std.proofs.Common.{◌≡◌, ◌≤◌, ℕ, suc, Option, Some, None, true, false, List, [], ◌∷◌, ◌++◌, length, refl, ap, ◌∙◌, arith}
 use Rattle.sb_base.specs.declared.interning.Name.{Name}
 use Rattle.sb_base.specs.declared.refusals.Place.{Place}
 use Rattle.sb_base.specs.declared.tokens.Token.{Token}
-use Rattle.sb_parse.specs.Parser.{Parser, stop, ◌>>=◌, pure, refuse, choose, looped}
-use Rattle.sb_parse.specs.Lawful.{Lawful}
+use Rattle.sb_parse.specs.Parser.{Parser, stop, ◌>>=◌, pure, choose}
 use Rattle.sb_tree.specs.Plain.{decl_list}
 use Rattle.sb_tree.specs.Trees as tree
-use Rattle.sb_tree.specs.Trees.{TypeTree, depth_of_decls}
-use Rattle.sb_expr.specs.Readers.{unexpected, too_deep}
-use Rattle.sb_expr.specs.Reads.{GoesOn}
+use Rattle.sb_tree.specs.Trees.{depth_of_decls}
+use Rattle.sb_lexicon.specs.Tokens.{too_deep}
+use Rattle.sb_lexicon.specs.Outcomes.{GoesOn}
 use Rattle.sb_sal.proofs.Deepening.{Shrinks, Deepens, still_pure, in_order, choosing, turning, shrinks_then, shrinks_choose}
 use Rattle.sb_sal.proofs.Lowered.{raised, same_from}
 use Rattle.sb_sal.proofs.SomeDepth.{at_some_depth}
 use Rattle.sb_declare.specs.Readers as declaring
-use Rattle.sb_declare.specs.Readers.{Declarations, Declarator, Opening, ends_nameless, parts}
-use Rattle.sb_declare.specs.Specified.{reading}
-use Rattle.sb_declare.proofs.DeclarationWider.{IsNoted}
-use Rattle.sb_declare.proofs.DeclarationDeepens.{opening_deepens_then, declarator_in_shrinks, rest_shrinks, nameless_shrinks, declarator_in_deepens, rest_deepens, nameless_deepens}
-use Rattle.sb_declare.proofs.InitialiserDeepens.{initialiser_deepens}
-use Rattle.sb_declare.proofs.ReaderDeepens.{scope_specifiers, scope_declarators}
+use Rattle.sb_specifier.specs.Readers.{place_of_base, Declarations, Declarator, ends_nameless}
+use Rattle.sb_declare.specs.Readers.{Opening}
+use Rattle.sb_declarator.specs.Readers.{parts}
+use Rattle.sb_specifier.specs.Specified.{reading}
+use Rattle.sb_declare.proofs.widening.Declarations.{IsNoted}
+use Rattle.sb_declare.proofs.deepening.Declarations.{opening_deepens_then, declarator_in_shrinks, rest_shrinks, nameless_shrinks, declarator_in_deepens, rest_deepens, nameless_deepens}
+use Rattle.sb_declare.proofs.deepening.Initialisers.{initialiser_deepens}
+use Rattle.sb_declare.proofs.deepening.Readers.{scope_specifiers, scope_declarators}
 use Rattle.sb_decl.specs.Readers.{defines, defined, external_behind, external, statements, unit_reader}
 use Rattle.sb_decl.specs.Statement.{IsUnit}
 use Rattle.sb_decl.proofs.StatementDepths.{statements_deepen}
-use Rattle.sb_decl.proofs.UnitLaws.{anything, unit_law}
+use Rattle.sb_decl.proofs.UnitWider.{reader_of, law_of}
+use Rattle.sb_decl.proofs.UnitLaws.{anything}
 
 module _ (texts : List (List ℕ)) where
   abbrev Initial : (n : ℕ) (types : List Name) → Deepens n (λ m. declaring.initialiser (reading texts types) m)
@@ -34,14 +36,6 @@ module _ (texts : List (List ℕ)) where
   declared_alike : (n m : ℕ) (o : Opening) (name : Option (Name × Place)) (types : List Name) → declaring.declared_by texts m (parts texts m) o name types ≡ declaring.declared_by texts n (parts texts n) o name types
   declared_alike n m o None types = refl
   declared_alike n m o (Some p) types = refl
-
-  place_alike : (n m : ℕ) (t : TypeTree) → declaring.place_of_base texts m (parts texts m) t ≡ declaring.place_of_base texts n (parts texts n) t
-  place_alike n m (tree.Base code place) = refl
-  place_alike n m (tree.Struct tag members place) = refl
-  place_alike n m (tree.Enum tag items place) = refl
-  place_alike n m (tree.Defined name place) = refl
-  place_alike n m (tree.Const t) = place_alike n m t
-  place_alike n m _ = refl
 
   module _ (n : ℕ) (o : Opening) where
     -- ---- functions with their bodies
@@ -69,13 +63,13 @@ module _ (texts : List (List ℕ)) where
 
     -- a declaration without a name, or declarators
     abbrev after : List Name → ℕ → Parser Token Declarations
-    after types m = choose (ends_nameless (reading texts types)) (declaring.nameless texts m (parts texts m) o (declaring.place_of_base texts m (parts texts m) o.base))
+    after types m = choose (ends_nameless (reading texts types)) (declaring.nameless texts m (parts texts m) o (place_of_base o.base))
         (declaring.declarator_in texts m (parts texts m) o o.specified.types o.base o.count >>= external_behind texts m o)
 
     after_shrinks : (types : List Name) (m : ℕ) → n ≤ m → Shrinks (after types m)
     after_shrinks types m le =
-        shrinks_choose _ (declaring.nameless texts m (parts texts m) o (declaring.place_of_base texts m (parts texts m) o.base)) _
-        (nameless_shrinks texts n (parts texts) (scope_specifiers texts n) (scope_declarators texts n) (Initial n) o (declaring.place_of_base texts m (parts texts m) o.base) m le)
+        shrinks_choose _ (declaring.nameless texts m (parts texts m) o (place_of_base o.base)) _
+        (nameless_shrinks texts n (parts texts) (scope_specifiers texts n) (scope_declarators texts n) (Initial n) o (place_of_base o.base) m le)
         (shrinks_then (declaring.declarator_in texts m (parts texts m) o o.specified.types o.base o.count) (external_behind texts m o)
         (declarator_in_shrinks texts n (parts texts) (scope_specifiers texts n) (scope_declarators texts n) (Initial n) o o.specified.types o.base o.count m le) (λ d. behind_shrinks d m le))
 
@@ -88,12 +82,9 @@ module _ (texts : List (List ℕ)) where
 
       after_deepens : (types : List Name) → Deepens n (λ m. after types m)
       after_deepens types =
-          choosing n (ends_nameless (reading texts types)) (λ m. declaring.nameless texts m (parts texts m) o (declaring.place_of_base texts m (parts texts m) o.base))
+          choosing n (ends_nameless (reading texts types)) (λ m. declaring.nameless texts m (parts texts m) o (place_of_base o.base))
           (λ m. declaring.declarator_in texts m (parts texts m) o o.specified.types o.base o.count >>= external_behind texts m o)
-          (same_from n (λ m. declaring.nameless texts m (parts texts m) o (declaring.place_of_base texts n (parts texts n) o.base))
-          (λ m. declaring.nameless texts m (parts texts m) o (declaring.place_of_base texts m (parts texts m) o.base))
-          (λ m le. ap (declaring.nameless texts m (parts texts m) o) (place_alike n m o.base))
-          (nameless_deepens texts n (parts texts) (scope_specifiers texts n) (scope_declarators texts n) (Initial n) o noted (declaring.place_of_base texts n (parts texts n) o.base)))
+          (nameless_deepens texts n (parts texts) (scope_specifiers texts n) (scope_declarators texts n) (Initial n) o noted (place_of_base o.base))
           (in_order n (λ m. declaring.declarator_in texts m (parts texts m) o o.specified.types o.base o.count) (λ m. external_behind texts m o)
           (declarator_in_deepens texts n (parts texts) (scope_specifiers texts n) (scope_declarators texts n) (Initial n) o noted o.specified.types o.base o.count) behind_deepens)
 
@@ -107,21 +98,11 @@ module _ (texts : List (List ℕ)) where
       (λ m o. after n o ds.types m) (λ o noted. after_deepens n o noted ds.types) (λ m le o. after_shrinks n o ds.types m le))
       (λ new. still_pure n _)
 
-  -- units that are at most so deep
-  reader_of : ℕ → Parser Token Declarations
-  reader_of zero = refuse unexpected
-  reader_of (suc below) = looped anything (external texts below) (record { list = []; types = [] })
-
-  law_of : (left : ℕ) → 2 ≤ left → Lawful (λ ts ds. IsUnit texts ts ds × (depth_of_decls (decl_list ds.list) ≤ left)) (λ ds t. true) (reader_of left)
+  units_deepen : (n : ℕ) → Deepens (suc n) (reader_of texts)
   unfolding reader_of
-  law_of zero some = absurd (omega arith)
-  law_of (suc below) some = unit_law texts below (omega arith)
-
-  units_deepen : (n : ℕ) → Deepens (suc n) reader_of
-  unfolding reader_of
-  units_deepen n = raised n reader_of (turning n anything (λ m. external texts m) (external_deepens n) (record { list = []; types = [] }))
+  units_deepen n = raised n (reader_of texts) (turning n anything (λ m. external texts m) (external_deepens n) (record { list = []; types = [] }))
 
   -- where a unit is refused for want of depth, deeper units go on
   pub unit_at_some_depth : (ts : List Token) (k : ℕ) → unit_reader texts ts ≡ stop too_deep k → (front bad : List Token) → ts ≡ front ++ bad → k ≡ length bad → GoesOn (IsUnit texts) front bad
   unfolding reader_of
-  unit_at_some_depth ts k e = at_some_depth (IsUnit texts) (λ ds. depth_of_decls (decl_list ds.list)) (λ ds t. true) 2 reader_of law_of 200 (omega arith) (units_deepen 199) ts k e
+  unit_at_some_depth ts k e = at_some_depth (IsUnit texts) (λ ds. depth_of_decls (decl_list ds.list)) (λ ds t. true) 2 (reader_of texts) (law_of texts) 200 (omega arith) (units_deepen 199) ts k e

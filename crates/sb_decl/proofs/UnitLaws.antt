@@ -14,12 +14,12 @@ use Rattle.sb_parse.proofs.Looping.{looping}
 use Rattle.sb_parse.proofs.Reading.{one_tree, refused}
 use Rattle.sb_tree.specs.Plain.{decl_list}
 use Rattle.sb_tree.specs.Trees.{depth_of_decls}
-use Rattle.sb_expr.proofs.Ways.{turned_once_more}
-use Rattle.sb_declare.specs.declared.seat.Seat.TheVariants as seat
-use Rattle.sb_declare.specs.Specified.{reading}
-use Rattle.sb_declare.specs.Readers.{Declarations, begins_declaration}
-use Rattle.sb_declare.proofs.Heads.{declaration_begins}
-use Rattle.sb_declare.proofs.MemberLaws.{both_deep, deep_both}
+use Rattle.sb_parse.proofs.Ways.{turned_once_more}
+use Rattle.sb_specifier.specs.declared.seat.Seat.TheVariants as seat
+use Rattle.sb_specifier.specs.Specified.{reading}
+use Rattle.sb_specifier.specs.Readers.{Declarations, begins_declaration}
+use Rattle.sb_declarator.proofs.laws.Heads.{declaration_begins}
+use Rattle.sb_declarator.proofs.laws.Members.{both_deep, deep_both}
 use Rattle.sb_decl.specs.Readers.{external, unit_reader}
 use Rattle.sb_decl.specs.Reads.{FitsUnit, IsUnitRead, IsUnitAnswer}
 use Rattle.sb_decl.specs.Statement as grammar

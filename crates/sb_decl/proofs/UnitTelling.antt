@@ -6,22 +6,25 @@ use Rattle.sb_base.specs.declared.refusals.Stop.TheVariants.{Refused, Memory}
 use Rattle.sb_base.specs.declared.tokens.Token.{Token}
 use Rattle.sb_parse.specs.Parser.{Outcome, Parser, done, stop, at_next, and_then, ◌>>=◌, choose}
 use Rattle.sb_parse.specs.Lawful.{Part}
-use Rattle.sb_sal.proofs.Explaining.{Stops}
-use Rattle.sb_declare.specs.Specified.{reading}
-use Rattle.sb_declare.specs.Readers as declaring
-use Rattle.sb_declare.specs.Readers.{Declarator, Declarations, Opening, parts, ends_nameless, opening, nameless, declarator_in, rest_of_declaration}
-use Rattle.sb_declare.proofs.Telling.{Tells, Telling, tells_behind, by_choice, mapping, turning}
-use Rattle.sb_declare.proofs.Reasoned.{reasons}
-use Rattle.sb_declare.proofs.Scoping.{FitsOpening, more_opening}
-use Rattle.sb_declare.proofs.Scoped.{opening_law}
-use Rattle.sb_declare.proofs.Tying.{members_below, parameters_below}
-use Rattle.sb_declare.proofs.PartTelling.{parts_telling}
-use Rattle.sb_declare.proofs.DeclarationTelling.{Counted, declarator_counted, rest_tells, nameless_tells, opening_telling}
+use Rattle.sb_parse.proofs.Explaining.{Stops}
+use Rattle.sb_specifier.specs.Specified.{reading}
+use Rattle.sb_specifier.specs.Readers as declaring
+use Rattle.sb_specifier.specs.Readers.{Declarator, Declarations, ends_nameless}
+use Rattle.sb_declare.specs.Readers.{Opening, opening, nameless, declarator_in, rest_of_declaration}
+use Rattle.sb_declarator.specs.Readers.{parts}
+use Rattle.sb_parse.proofs.Telling.{Tells, Telling, tells_behind, by_choice, mapping, turning}
+use Rattle.sb_specifier.proofs.telling.Reasons.{reasons}
+use Rattle.sb_declare.proofs.laws.Scoping.{FitsOpening, more_opening}
+use Rattle.sb_declare.proofs.laws.Scoped.{opening_law}
+use Rattle.sb_declarator.proofs.laws.Parts.{members_below, parameters_below}
+use Rattle.sb_declarator.proofs.telling.Parts.{parts_telling}
+use Rattle.sb_declare.proofs.telling.Declarations.{Counted, declarator_counted, rest_tells, nameless_tells, opening_telling}
 use Rattle.sb_decl.specs.Readers.{defines, defined, external_behind, external, unit_reader}
 use Rattle.sb_decl.specs.Reads.{IsUnitRead}
 use Rattle.sb_decl.specs.Reasons.{IsUnitReason, IsRefusedUnit, HasUnitReason}
 use Rattle.sb_decl.proofs.StatementTelling.{unit_reasons, lifted, statements_tell}
-use Rattle.sb_decl.proofs.UnitWider.{unit_at_every_depth}
+use Rattle.sb_decl.proofs.UnitLaws.{unit_refused}
+use Rattle.sb_decl.proofs.UnitWider.{unit_at_every_depth, unit_at_end}
 use Rattle.sb_decl.proofs.UnitDeepens.{unit_at_some_depth}
 
 module _ (texts : List (List ℕ)) (below : ℕ) (some : 1 ≤ below) where
@@ -52,11 +55,11 @@ module _ (texts : List (List ℕ)) (below : ℕ) (some : 1 ≤ below) where
         go (done v rest) c = subst (λ z. Tells (unit_reasons texts) z (external_behind texts below o v rest)) (sym c.split) (behind_tells v c.shown c.counted rest)
 
     after_tells : (ts : List Token) → Tells (unit_reasons texts) (at_first ts)
-        (choose (ends_nameless (reading texts types)) (nameless texts below (parts texts below) o (declaring.place_of_base texts below (parts texts below) o.base))
+        (choose (ends_nameless (reading texts types)) (nameless texts below (parts texts below) o (declaring.place_of_base o.base))
         (declarator_in texts below (parts texts below) o o.specified.types o.base o.count >>= external_behind texts below o) ts)
     after_tells ts =
         by_choice (unit_reasons texts) (at_next (ends_nameless (reading texts types)) ts) _ _ (at_first ts)
-        (λ h. lifted texts (at_first ts) (nameless texts below (parts texts below) o (declaring.place_of_base texts below (parts texts below) o.base) ts)
+        (λ h. lifted texts (at_first ts) (nameless texts below (parts texts below) o (declaring.place_of_base o.base) ts)
         (nameless_tells texts below (parts texts below) (parts_telling texts below) (members_below texts below) (parameters_below texts below) some types start o f ts h)) (λ h. named_tells ts)
 
   external_tells : (ds : Declarations) → Telling (unit_reasons texts) (external texts below ds)
@@ -64,7 +67,7 @@ module _ (texts : List (List ℕ)) (below : ℕ) (some : 1 ≤ below) where
   external_tells ds = mapping (unit_reasons texts) _ _ reads
     where
       after : Opening → Parser Token Declarations
-      after o = choose (ends_nameless (reading texts ds.types)) (nameless texts below (parts texts below) o (declaring.place_of_base texts below (parts texts below) o.base))
+      after o = choose (ends_nameless (reading texts ds.types)) (nameless texts below (parts texts below) o (declaring.place_of_base o.base))
           (declarator_in texts below (parts texts below) o o.specified.types o.base o.count >>= external_behind texts below o)
 
       go : (ts : List Token) (q : Outcome Token Opening) → opening texts below (parts texts below) ds.types ts ≡ q → Tells (reasons texts) ts q → Tells (unit_reasons texts) ts (and_then q after)
@@ -93,10 +96,18 @@ module _ (texts : List (List ℕ)) where
         left_is = s.left_is;
         reason = s.why;
         at_every_depth = λ not_deep. unit_at_every_depth texts ts n k e not_deep s.front s.bad s.split s.left_is;
+        at_end = λ not_deep. unit_at_end texts ts n k e not_deep s.front s.bad s.split;
         at_some_depth = λ deep. unit_at_some_depth texts ts k (e ∙ ap (λ z. stop z k) deep) s.front s.bad s.split s.left_is;
       }
 
   pub unit_has_reason : {E : Type 0} (gives : Declarations → E → Type 0) (tokens : List Token) (result : Result E Stop) → IsUnitRead gives texts tokens result → HasUnitReason texts tokens result
   unit_has_reason gives tokens (Ok e) is = tt
-  unit_has_reason gives tokens (Err (Refused r)) is = record { number = is.number; left = is.left; is = is.is; because = unit_reason tokens is.number is.left is.stops }
+  unit_has_reason gives tokens (Err (Refused r)) is = record {
+    number = is.number;
+    left = is.left;
+    is = is.is;
+    stops = is.stops;
+    refused = unit_refused texts tokens is.number is.left is.stops;
+    because = unit_reason tokens is.number is.left is.stops;
+  }
   unit_has_reason gives tokens (Err Memory) is = tt

@@ -7,18 +7,20 @@ use Rattle.sb_parse.specs.Parser.{Parser, stop, ◌>>=◌, pure, refuse, choose,
 use Rattle.sb_parse.specs.Lawful.{Lawful}
 use Rattle.sb_tree.specs.Plain.{decl_list}
 use Rattle.sb_tree.specs.Trees as tree
-use Rattle.sb_tree.specs.Trees.{TypeTree, depth_of_decls}
-use Rattle.sb_expr.specs.Readers.{unexpected, too_deep}
-use Rattle.sb_expr.specs.Reads.{GoesOn}
-use Rattle.sb_expr.proofs.Wider.{Wider, one_by_one, before, choosing, turning}
-use Rattle.sb_sal.proofs.EveryDepth.{at_every_depth}
-use Rattle.sb_declare.specs.declared.seat.Seat.TheVariants as seat
+use Rattle.sb_tree.specs.Trees.{depth_of_decls}
+use Rattle.sb_lexicon.specs.Tokens.{unexpected, too_deep}
+use Rattle.sb_lexicon.specs.Outcomes.{GoesOn}
+use Rattle.sb_lexicon.proofs.Wider.{Wider, one_by_one, before, choosing, turning}
+use Rattle.sb_sal.proofs.EveryDepth.{at_every_depth, at_end}
+use Rattle.sb_specifier.specs.declared.seat.Seat.TheVariants as seat
 use Rattle.sb_declare.specs.Readers as declaring
-use Rattle.sb_declare.specs.Readers.{Declarations, Declarator, Opening, ends_nameless, parts}
-use Rattle.sb_declare.specs.Specified.{reading}
-use Rattle.sb_declare.proofs.DeclarationWider.{IsNoted, opening_then, declarator_in_wider, rest_wider, nameless_wider}
-use Rattle.sb_declare.proofs.EachWider.{each_specifiers, each_declarator}
-use Rattle.sb_declare.proofs.InitialiserWider.{initialiser_wider}
+use Rattle.sb_specifier.specs.Readers.{specifiers, place_of_base, Declarations, Declarator, ends_nameless}
+use Rattle.sb_declare.specs.Readers.{Opening}
+use Rattle.sb_declarator.specs.Readers.{parts}
+use Rattle.sb_specifier.specs.Specified.{reading}
+use Rattle.sb_declare.proofs.widening.Declarations.{IsNoted, opening_then, declarator_in_wider, rest_wider, nameless_wider}
+use Rattle.sb_declare.proofs.widening.Each.{each_specifiers, each_declarator}
+use Rattle.sb_declare.proofs.widening.Initialisers.{initialiser_wider}
 use Rattle.sb_decl.specs.Readers.{defines, defined, external_behind, external, statements, unit_reader}
 use Rattle.sb_decl.specs.Statement.{IsUnit}
 use Rattle.sb_decl.proofs.StatementWider.{statements_wider}
@@ -30,14 +32,6 @@ module _ (texts : List (List ℕ)) (n m : ℕ) (le : n ≤ m) where
   declared_alike : (o : Opening) (name : Option (Name × Place)) (types : List Name) → declaring.declared_by texts n (parts texts n) o name types ≡ declaring.declared_by texts m (parts texts m) o name types
   declared_alike o None types = refl
   declared_alike o (Some p) types = refl
-
-  place_alike : (t : TypeTree) → declaring.place_of_base texts n (parts texts n) t ≡ declaring.place_of_base texts m (parts texts m) t
-  place_alike (tree.Base code place) = refl
-  place_alike (tree.Struct tag members place) = refl
-  place_alike (tree.Enum tag items place) = refl
-  place_alike (tree.Defined name place) = refl
-  place_alike (tree.Const t) = place_alike t
-  place_alike _ = refl
 
   -- ---- functions with their bodies
 
@@ -58,7 +52,7 @@ module _ (texts : List (List ℕ)) (n m : ℕ) (le : n ≤ m) where
 
   -- ---- what follows an opening
 
-  abbrev Specifiers : (types : List Name) → Wider (declaring.specifiers texts seat.Scope n (parts texts n) types) (declaring.specifiers texts seat.Scope m (parts texts m) types)
+  abbrev Specifiers : (types : List Name) → Wider (specifiers texts seat.Scope n (parts texts n) types) (specifiers texts seat.Scope m (parts texts m) types)
   Specifiers = each_specifiers texts seat.Scope n m le
 
   module _ (o : Opening) (noted : IsNoted texts n o) where
@@ -70,15 +64,14 @@ module _ (texts : List (List ℕ)) (n m : ℕ) (le : n ≤ m) where
         rest_there d = rest_wider texts n m le (parts texts n) (parts texts m) Specifiers (λ types functions. each_declarator texts types functions false n m le) (λ types. initialiser_wider (reading texts types) n m le) o noted d
 
     abbrev after : List Name → ℕ → Parser Token Declarations
-    after types k = choose (ends_nameless (reading texts types)) (declaring.nameless texts k (parts texts k) o (declaring.place_of_base texts k (parts texts k) o.base))
+    after types k = choose (ends_nameless (reading texts types)) (declaring.nameless texts k (parts texts k) o (place_of_base o.base))
         (declaring.declarator_in texts k (parts texts k) o o.specified.types o.base o.count >>= external_behind texts k o)
 
     after_wider : (types : List Name) → Wider (after types n) (after types m)
     after_wider types =
         choosing (ends_nameless (reading texts types)) _ _ _ _
-        (subst (λ z. Wider (declaring.nameless texts n (parts texts n) o (declaring.place_of_base texts n (parts texts n) o.base)) (declaring.nameless texts m (parts texts m) o z)) (place_alike o.base)
         (nameless_wider texts n m le (parts texts n) (parts texts m) Specifiers (λ types functions. each_declarator texts types functions false n m le) (λ types. initialiser_wider (reading texts types) n m le)
-        o noted (declaring.place_of_base texts n (parts texts n) o.base)))
+        o noted (place_of_base o.base))
         (one_by_one (declaring.declarator_in texts n (parts texts n) o o.specified.types o.base o.count) (declaring.declarator_in texts m (parts texts m) o o.specified.types o.base o.count)
         (external_behind texts n o) (external_behind texts m o)
         (declarator_in_wider texts n m le (parts texts n) (parts texts m) Specifiers (λ types functions. each_declarator texts types functions false n m le) (λ types. initialiser_wider (reading texts types) n m le)
@@ -100,12 +93,12 @@ module _ (texts : List (List ℕ)) (n m : ℕ) (le : n ≤ m) where
 -- ---- what is refused for another reason than depth is refused at every depth
 
 module _ (texts : List (List ℕ)) where
-  -- units that are at most so deep
-  reader_of : ℕ → Parser Token Declarations
+  -- the reader of units that are at most so deep
+  unfoldable pub reader_of : ℕ → Parser Token Declarations
   reader_of zero = refuse unexpected
   reader_of (suc below) = looped anything (external texts below) (record { list = []; types = [] })
 
-  law_of : (left : ℕ) → 2 ≤ left → Lawful (λ ts ds. IsUnit texts ts ds × (depth_of_decls (decl_list ds.list) ≤ left)) (λ ds t. true) (reader_of left)
+  pub law_of : (left : ℕ) → 2 ≤ left → Lawful (λ ts ds. IsUnit texts ts ds × (depth_of_decls (decl_list ds.list) ≤ left)) (λ ds t. true) (reader_of left)
   unfolding reader_of
   law_of zero some = absurd (omega arith)
   law_of (suc below) some = unit_law texts below (omega arith)
@@ -119,3 +112,7 @@ module _ (texts : List (List ℕ)) where
   pub unit_at_every_depth : (ts : List Token) (n k : ℕ) → unit_reader texts ts ≡ stop n k → (n ≡ too_deep → ⊥) → (front bad : List Token) → ts ≡ front ++ bad → k ≡ length bad → GoesOn (IsUnit texts) front bad → ⊥
   unfolding reader_of
   unit_at_every_depth ts n k e = at_every_depth (IsUnit texts) (λ ds. depth_of_decls (decl_list ds.list)) (λ ds t. true) 2 reader_of law_of wider_of 200 (omega arith) ts n k e
+
+  pub unit_at_end : (ts : List Token) (n k : ℕ) → unit_reader texts ts ≡ stop n k → (n ≡ too_deep → ⊥) → (front bad : List Token) → ts ≡ front ++ bad → bad ≡ [] → (ds : Declarations) → IsUnit texts front ds → ⊥
+  unfolding reader_of
+  unit_at_end ts n k e = at_end (IsUnit texts) (λ ds. depth_of_decls (decl_list ds.list)) (λ ds t. true) 2 reader_of law_of wider_of 200 (omega arith) ts n k e

@@ -7,28 +7,31 @@ use Rattle.sb_parse.specs.Parser.{Outcome, Parser, done, stop, at_next, never, a
 use Rattle.sb_parse.specs.Lawful.{Lawful, IsEmpty, Opened, Closed, Mapped, Either}
 use Rattle.sb_parse.proofs.Joining.{via, nothing}
 use Rattle.sb_parse.proofs.Heads.{opened, head_of_append}
-use Rattle.sb_tree.specs.declared.sign.Mark.{Mark}
-use Rattle.sb_tree.specs.declared.sign.Mark.TheVariants as mark
+use Rattle.sb_sign.specs.declared.sign.Mark.{Mark}
+use Rattle.sb_sign.specs.declared.sign.Mark.TheVariants as mark
 use Rattle.sb_tree.specs.Trees as tree
 use Rattle.sb_tree.specs.Trees.{ExprTree, OptionalExpr, StmtTree, depth_of_expr, depth_of_optional_expr, depth_of_stmt}
 use Rattle.sb_expr.specs.Expression.{Level, Sequence}
-use Rattle.sb_expr.specs.Lexicon.{Lexicon, is_mark}
-use Rattle.sb_expr.specs.Readers.{unexpected, is_open, is_close, begins_expr, no_parts, whole_parts, expr_reader}
-use Rattle.sb_expr.specs.Reads.{nowhere, FitsExpr}
-use Rattle.sb_expr.proofs.Begins.{expr_begins}
-use Rattle.sb_expr.proofs.Depths.{some_depth}
-use Rattle.sb_expr.proofs.Ends.{close_ends, sequence_ends}
-use Rattle.sb_expr.proofs.Lexemes.{mark_is, close_token, close_token_is}
-use Rattle.sb_expr.proofs.More.{more}
+use Rattle.sb_lexicon.specs.Lexicon.{Lexicon, is_mark}
+use Rattle.sb_expr.specs.Readers.{no_parts, whole_parts, expr_reader}
+use Rattle.sb_lexicon.specs.Tokens.{unexpected, is_open, is_close, begins_expr}
+use Rattle.sb_expr.specs.Reads.{FitsExpr}
+use Rattle.sb_lexicon.specs.Outcomes.{nowhere}
+use Rattle.sb_expr.proofs.tokens.Begins.{expr_begins}
+use Rattle.sb_lexicon.proofs.Depths.{some_depth}
+use Rattle.sb_expr.proofs.tokens.Ends.{close_ends, sequence_ends}
+use Rattle.sb_lexicon.proofs.Lexemes.{mark_is, close_token, close_token_is}
+use Rattle.sb_expr.proofs.tokens.More.{more}
 use Rattle.sb_expr.proofs.Tying.{lawful_parts}
-use Rattle.sb_expr.proofs.Descending.{descent_bottom}
-use Rattle.sb_expr.proofs.Ways.{closing, Refuses, one_refuses, both_refuse, goes_on_where}
+use Rattle.sb_parse.proofs.Descending.{descent_bottom}
+use Rattle.sb_parse.proofs.Ways.{closing, Refuses, one_refuses, both_refuse, goes_on_where}
 use Rattle.sb_sal.specs.Spellings.{begins_note}
-use Rattle.sb_sal.proofs.Partly.{Partly, as_partly, partly_via, with_text, refusing, choosing, opened_head}
+use Rattle.sb_parse.proofs.Partly.{Partly, as_partly, partly_via, with_text, refusing, choosing, opened_head}
 use Rattle.sb_sal.proofs.Tokens.{open_token, open_token_is}
-use Rattle.sb_declare.specs.Specified.{reading}
-use Rattle.sb_declare.specs.Readers.{is_semicolon, with_front}
-use Rattle.sb_declare.proofs.Fronts.{WithText, text_law}
+use Rattle.sb_specifier.specs.Specified.{reading}
+use Rattle.sb_specifier.specs.Readers.{is_semicolon}
+use Rattle.sb_parse.specs.Texts.{with_front}
+use Rattle.sb_parse.proofs.Texts.{WithText, text_law}
 use Rattle.sb_decl.specs.Readers.{Parts, first_place, expression, in_parentheses, semicolon, evaluated, optional}
 use Rattle.sb_decl.specs.Statement.{IsTested, is_tested, IsOptional, no_expr, an_expr, IsEvaluated, is_evaluated}
 use Rattle.sb_decl.proofs.Chains.{AMark, begins_none, sign_begins_none}

@@ -4,22 +4,23 @@ use Rattle.sb_base.specs.declared.interning.Name.{Name}
 use Rattle.sb_base.specs.declared.refusals.Place.{Place}
 use Rattle.sb_base.specs.declared.tokens.Token.{Token}
 use Rattle.sb_parse.specs.Parser.{Parser, at_next, pure, token, taken, guard}
-use Rattle.sb_tree.specs.declared.sign.Keyword.TheVariants as keyword
+use Rattle.sb_sign.specs.declared.sign.Keyword.TheVariants as keyword
 use Rattle.sb_tree.specs.Trees as tree
 use Rattle.sb_tree.specs.Trees.{StmtTree}
-use Rattle.sb_expr.specs.Descent.{at_second, choose_second}
+use Rattle.sb_parse.specs.Descent.{at_second, choose_second}
 use Rattle.sb_expr.specs.Expression.{Level, Conditional, Sequence}
-use Rattle.sb_expr.specs.Lexicon.{Lexicon, is_keyword}
-use Rattle.sb_expr.specs.Readers.{unexpected, too_deep, is_zero, is_open, is_close, is_open_brace, is_colon, expr_reader}
-use Rattle.sb_expr.proofs.PartWider.{parts_wider}
-use Rattle.sb_expr.proofs.Wider.{Held, short, Wider, alike, one_by_one, behind, before, guarding, by_choice, choosing, turning, zero_wider}
-use Rattle.sb_declare.specs.Readers.{is_close_brace, is_semicolon, is_name, name_at, declaration_reader}
-use Rattle.sb_declare.specs.Specified.{reading}
-use Rattle.sb_declare.proofs.MemberWider.{text_wider}
-use Rattle.sb_decl.specs.Readers.{Body, First, Parts, names_declaration, expression, in_parentheses, semicolon, block, evaluated, empty, declared, other, selected, switched, repeated, done_first, optional, first, gone}
-use Rattle.sb_decl.specs.Readers.{broken, continued, returned, labelled, case_of, default_of, stepped, iterated, by_keyword, unlabelled, by_name, statement, declaration_item, statement_item, named_declaration, named_item, item, whole_parts}
+use Rattle.sb_lexicon.specs.Lexicon.{Lexicon, is_keyword}
+use Rattle.sb_expr.specs.Readers.{expr_reader}
+use Rattle.sb_lexicon.specs.Tokens.{unexpected, too_deep, is_zero, is_open, is_close, is_open_brace, is_colon}
+use Rattle.sb_expr.proofs.widening.EachDepth.{parts_wider}
+use Rattle.sb_lexicon.proofs.Wider.{Held, short, Wider, alike, one_by_one, behind, before, guarding, by_choice, choosing, turning, zero_wider}
+use Rattle.sb_specifier.specs.Readers.{is_close_brace, is_semicolon, is_name, name_at}
+use Rattle.sb_declare.specs.Readers.{declaration_reader}
+use Rattle.sb_specifier.specs.Specified.{reading}
+use Rattle.sb_declare.proofs.widening.Members.{text_wider}
+use Rattle.sb_decl.specs.Readers.{Body, First, Parts, names_declaration, expression, in_parentheses, semicolon, block, evaluated, empty, declared, other, selected, switched, repeated, done_first, optional, first, gone, broken, continued, returned, labelled, case_of, default_of, stepped, iterated, by_keyword, unlabelled, by_name, statement, declaration_item, statement_item, named_declaration, named_item, item, whole_parts}
 
--- the readers of statements, each wider than the other one of its kind
+-- the readers of statements, each with the one of its kind that has more room
 pub record WiderParts (part more : Parts) : Type 0 where
   pub statement : (cases : Bool) (types : List Name) → Wider (part.statement cases types) (more.statement cases types)
   pub block : (cases : Bool) (types : List Name) → Wider (part.block cases types) (more.block cases types)

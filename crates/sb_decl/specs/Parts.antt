@@ -3,16 +3,17 @@ use Rattle.std.specs.Prelude.{ℕ, Bool, true, ◌&&◌, ◌||◌, not, List, []
 use Rattle.sb_base.specs.declared.interning.Name.{Name}
 use Rattle.sb_base.specs.declared.tokens.Token.{Token}
 use Rattle.sb_parse.specs.Parser.{Parser, ◌>>=◌, choose, refuse, looped}
-use Rattle.sb_tree.specs.declared.sign.Keyword.{Keyword}
-use Rattle.sb_tree.specs.declared.sign.Keyword.TheVariants as keyword
+use Rattle.sb_sign.specs.declared.sign.Keyword.{Keyword}
+use Rattle.sb_sign.specs.declared.sign.Keyword.TheVariants as keyword
 use Rattle.sb_tree.specs.Trees.{StmtTree}
-use Rattle.sb_expr.specs.Lexicon.{Lexicon, is_keyword}
-use Rattle.sb_expr.specs.Readers.{unexpected, too_deep, bad_arguments, is_open, is_open_brace, begins_expr}
-use Rattle.sb_declare.specs.declared.seat.Seat.TheVariants as seat
-use Rattle.sb_declare.specs.Meaning.{inside}
+use Rattle.sb_lexicon.specs.Lexicon.{Lexicon, is_keyword}
+use Rattle.sb_lexicon.specs.Tokens.{unexpected, too_deep, bad_arguments, is_open, is_open_brace, begins_expr}
+use Rattle.sb_specifier.specs.declared.seat.Seat.TheVariants as seat
+use Rattle.sb_declarator.specs.Meaning.{inside}
 use Rattle.sb_declare.specs.Readers as declaring
-use Rattle.sb_declare.specs.Readers.{Opening, Declarator, Declarations, is_close_brace, is_semicolon, ends_nameless, barred}
-use Rattle.sb_declare.specs.Specified.{reading}
+use Rattle.sb_specifier.specs.Readers.{place_of_base, Declarator, Declarations, is_close_brace, is_semicolon, ends_nameless, barred}
+use Rattle.sb_declare.specs.Readers.{Opening}
+use Rattle.sb_specifier.specs.Specified.{reading}
 use Rattle.sb_decl.specs.Readers as spec
 use Rattle.sb_decl.specs.Readers.{Body, First, Parts}
 
@@ -76,10 +77,10 @@ module _ (texts : List (List ℕ)) (below : ℕ) (part : Parts) (types : List Na
 abbrev pub names_in : List (List ℕ) → ℕ → Opening → Declarator → List Name
 names_in texts below o d = inside declaring.declared_by texts below o d.name d.inner
 
--- a declaration or a function, behind typedef names
+-- a declaration or a function, where these typedef names are in force
 abbrev pub one_external : List (List ℕ) → ℕ → List Name → Parser Token Declarations
 one_external texts below types = inside declaring.opening texts below types >>= (λ o.
-    choose (ends_nameless (reading texts types)) (inside declaring.nameless texts below o (inside declaring.place_of_base texts below o.base))
+    choose (ends_nameless (reading texts types)) (inside declaring.nameless texts below o (place_of_base o.base))
     (inside declaring.declarator_in texts below o o.specified.types o.base o.count >>= spec.external_behind texts below o))
 
 -- as many externals as there are

@@ -1,26 +1,30 @@
--- The readers of statements and of translation units, as functions on the tokens that are left.
+-- The readers of statements and of translation units, as functions on the tokens that are left. Beside the numbers of declarations a stop has 2001 for a word one token before that is no annotation.
 use Rattle.std.specs.Prelude.{ℕ, zero, suc, Bool, true, false, ◌&&◌, ◌||◌, not, List, [], ◌∷◌, ◌++◌, nat_lt, if◌then◌else◌}
 use Rattle.std.specs.Option.{option_map_or}
 use Rattle.sb_base.specs.declared.interning.Name.{Name}
 use Rattle.sb_base.specs.declared.refusals.Place.{Place}
 use Rattle.sb_base.specs.declared.tokens.Token.{Token}
 use Rattle.sb_parse.specs.Parser.{Parser, ◌>>=◌, pure, refuse, token, taken, choose, guard, looped}
-use Rattle.sb_tree.specs.declared.sign.Keyword.{Keyword}
-use Rattle.sb_tree.specs.declared.sign.Keyword.TheVariants as keyword
+use Rattle.sb_sign.specs.declared.sign.Keyword.{Keyword}
+use Rattle.sb_sign.specs.declared.sign.Keyword.TheVariants as keyword
 use Rattle.sb_tree.specs.Plain.{decl_list, stmt_list}
-use Rattle.sb_tree.specs.Signs as sign
+use Rattle.sb_sign.specs.Signs as sign
 use Rattle.sb_tree.specs.Trees as tree
-use Rattle.sb_tree.specs.Trees.{ExprTree, OptionalExpr, StmtTree, OptionalStmt, DeclTree}
-use Rattle.sb_expr.specs.Descent.{choose_second}
+use Rattle.sb_tree.specs.Trees.{ExprTree, OptionalExpr, StmtTree, OptionalStmt}
+use Rattle.sb_parse.specs.Descent.{choose_second}
 use Rattle.sb_expr.specs.Expression.{Conditional, Sequence}
-use Rattle.sb_expr.specs.Lexicon.{Lexicon, is_keyword, is_type_name}
-use Rattle.sb_expr.specs.Readers.{unexpected, too_deep, bad_arguments, unknown_before, volatile, is_zero, is_open, is_close, is_star, is_open_brace, is_colon, begins_expr, expr_reader}
+use Rattle.sb_lexicon.specs.Lexicon.{Lexicon, is_keyword, is_type_name}
+use Rattle.sb_expr.specs.Readers.{expr_reader}
+use Rattle.sb_lexicon.specs.Tokens.{unexpected, too_deep, bad_arguments, unknown_before, volatile, is_zero, is_open, is_close, is_star, is_open_brace, is_colon, begins_expr}
 use Rattle.sb_sal.specs.Readers.{is_bare}
 use Rattle.sb_sal.specs.Spellings.{begins_note, is_listed, is_unlisted}
-use Rattle.sb_declare.specs.declared.seat.Seat.TheVariants as seat
+use Rattle.sb_specifier.specs.declared.seat.Seat.TheVariants as seat
+use Rattle.sb_specifier.specs.Readers.{barred, place_of_base, Declarations, Declarator, is_close_brace, is_semicolon, is_name, is_storage_word, name_at, begins_declaration, ends_nameless}
 use Rattle.sb_declare.specs.Readers as declaring
-use Rattle.sb_declare.specs.Readers.{Declarations, Declarator, Opening, with_text, is_close_brace, is_semicolon, is_name, is_storage_word, name_at, begins_declaration, ends_nameless, declaration_reader, parts}
-use Rattle.sb_declare.specs.Specified.{reading, declares_function}
+use Rattle.sb_declare.specs.Readers.{Opening, declaration_reader}
+use Rattle.sb_parse.specs.Texts.{with_text}
+use Rattle.sb_declarator.specs.Readers.{parts}
+use Rattle.sb_specifier.specs.Specified.{reading, declares_function}
 
 -- ---- tests of one token
 
@@ -58,10 +62,10 @@ goes_on_type w t = is_keyword w keyword.Const t || (is_keyword w keyword.Restric
 abbrev pub room_for : Lexicon → Token → ℕ
 room_for w t = if is_listed w t && not (is_bare w t) then 3 else 2
 
--- behind the first token of a declaration for which there is no room, though a label has
+-- behind the first token of a declaration for which there is no room, though there is room for a label
 abbrev pub crowded : {A : Type 0} → Lexicon → Token → Parser Token A
 crowded w t =
-    if is_bare w t then choose (is_open w) (refuse bad_arguments) (declaring.barred w seat.Scope)
+    if is_bare w t then choose (is_open w) (refuse bad_arguments) (barred w seat.Scope)
     else (if is_listed w t then choose (is_open w) (refuse too_deep) (choose (λ s. true) (refuse bad_arguments) (refuse unexpected))
     else choose (is_keyword w keyword.Volatile) (refuse volatile) (choose (goes_on_type w) (refuse too_deep) (refuse unexpected)))
 
@@ -194,7 +198,7 @@ module _ (texts : List (List ℕ)) (below : ℕ) (part : Parts) where
   abbrev pub nested : Parser Token StmtTree → Parser Token StmtTree
   nested p = guard (is_zero below) too_deep p
 
-  -- a statement that begins with neither a name nor an expression
+  -- a statement that begins with no name; `p` where none of these begins it
   unfoldable pub by_keyword : Bool → List Name → Parser Token StmtTree → Parser Token StmtTree
   by_keyword cases types p =
       choose (is_open_brace (reading texts types)) (block texts below part types false)
@@ -264,8 +268,8 @@ unfoldable pub statements : List (List ℕ) → ℕ → Parts
 statements texts zero = record {
   statement = λ cases types. no_statement (reading texts types) cases (refuse unexpected);
   block = λ cases types. choose (is_open_brace (reading texts types)) (refuse too_deep) (refuse unexpected);
-  item = λ cases b. no_statement (reading texts b.types) cases (declaring.barred (reading texts b.types) seat.Scope);
-  first = λ types. choose (λ t. is_semicolon (reading texts types) t || begins_expr (reading texts types) t) (refuse too_deep) (declaring.barred (reading texts types) seat.Scope);
+  item = λ cases b. no_statement (reading texts b.types) cases (barred (reading texts b.types) seat.Scope);
+  first = λ types. choose (λ t. is_semicolon (reading texts types) t || begins_expr (reading texts types) t) (refuse too_deep) (barred (reading texts types) seat.Scope);
 }
 statements texts (suc below) = whole_parts texts below (statements texts below)
 
@@ -294,7 +298,7 @@ module _ (texts : List (List ℕ)) (below : ℕ) where
   -- a declaration, or a function with its body
   unfoldable pub external : Declarations → Parser Token Declarations
   external ds = declaring.opening texts below (parts texts below) ds.types >>= (λ o.
-      choose (ends_nameless (reading texts ds.types)) (declaring.nameless texts below (parts texts below) o (declaring.place_of_base texts below (parts texts below) o.base))
+      choose (ends_nameless (reading texts ds.types)) (declaring.nameless texts below (parts texts below) o (place_of_base o.base))
       (declaring.declarator_in texts below (parts texts below) o o.specified.types o.base o.count >>= external_behind o)) >>= (λ new.
       pure (record { list = ds.list ++ new.list; types = new.types }))
 

@@ -7,8 +7,8 @@ use Rattle.sb_parse.specs.Parser.{done}
 use Rattle.sb_parse.specs.Read.{IsRefused}
 use Rattle.sb_tree.specs.Plain.{decl_list}
 use Rattle.sb_tree.specs.Trees.{depth_of_decls}
-use Rattle.sb_expr.specs.Reads.{IsStop, IsRefusedBy}
-use Rattle.sb_declare.specs.Readers.{Declarations}
+use Rattle.sb_lexicon.specs.Outcomes.{IsStop, IsRefusedBy}
+use Rattle.sb_specifier.specs.Readers.{Declarations}
 use Rattle.sb_decl.specs.Readers.{most_depth, unit_reader}
 use Rattle.sb_decl.specs.Statement.{IsUnit}
 
@@ -22,7 +22,7 @@ IsUnitRead gives texts tokens (Ok e) = (ds : Declarations) × (unit_reader texts
 IsUnitRead gives texts tokens (Err (Refused r)) = IsRefusedBy (unit_reader texts tokens) tokens r
 IsUnitRead gives texts tokens (Err Memory) = Unit {0}
 
--- the list is a unit; or it is refused where no unit goes on with the token there
+-- the list is a unit that is at most 200 deep; or it is refused where no unit of at most 200 deep goes on with the token there
 abbrev pub IsUnitAnswer : {E : Type 0} → (Declarations → E → Type 0) → List (List ℕ) → List Token → Result E Stop → Type 0
 IsUnitAnswer gives texts tokens (Ok e) = (ds : Declarations) × FitsUnit texts tokens ds × gives ds e
 IsUnitAnswer gives texts tokens (Err (Refused r)) = (n : ℕ) × (left : ℕ) × IsStop tokens n left r × IsRefused (FitsUnit texts) tokens left

@@ -3,18 +3,20 @@ use Rattle.std.specs.Prelude.{◌≡◌, ℕ, Bool, true, false, List, [], ◌�
 use Rattle.sb_base.specs.declared.interning.Name.{Name}
 use Rattle.sb_base.specs.declared.tokens.Token.{Token}
 use Rattle.sb_parse.specs.Parser.{at_next}
-use Rattle.sb_tree.specs.declared.sign.Keyword.TheVariants as keyword
-use Rattle.sb_tree.specs.declared.sign.Mark.TheVariants as mark
+use Rattle.sb_sign.specs.declared.sign.Keyword.TheVariants as keyword
+use Rattle.sb_sign.specs.declared.sign.Mark.TheVariants as mark
 use Rattle.sb_tree.specs.Plain.{decl_list, stmt_list}
 use Rattle.sb_tree.specs.Trees as tree
-use Rattle.sb_tree.specs.Trees.{ExprTree, TypeTree, OptionalExpr, StmtTree, OptionalStmt, NoteTree}
+use Rattle.sb_tree.specs.Trees.{ExprTree, TypeTree, OptionalExpr, StmtTree, NoteTree}
 use Rattle.sb_expr.specs.Expression.{Conditional, Sequence, IsExpr}
-use Rattle.sb_expr.specs.Lexicon.{Lexicon, is_mark, is_keyword, name_of}
+use Rattle.sb_lexicon.specs.Lexicon.{Lexicon, is_mark, is_keyword, name_of}
 use Rattle.sb_sal.specs.declared.bearer.Bearer.TheVariants as bearer
 use Rattle.sb_sal.specs.Spellings.{begins_note}
-use Rattle.sb_declare.specs.Declaration.{IsDeclaration, IsDeclarator, Begins, IsJudged, functions_in, declared_by, declaration_of}
-use Rattle.sb_declare.specs.Readers.{Declarations, Declarator}
-use Rattle.sb_declare.specs.Specified.{Specified, reading, declares_function}
+use Rattle.sb_declare.specs.Declaration.{IsDeclaration, Begins, IsJudged, declared_by, declaration_of}
+use Rattle.sb_specifier.specs.Declaration.{IsDeclarator}
+use Rattle.sb_specifier.specs.Readers.{Declarations, Declarator}
+use Rattle.sb_declare.specs.Readers.{functions_in}
+use Rattle.sb_specifier.specs.Specified.{Specified, reading, declares_function}
 use Rattle.sb_decl.specs.Readers.{Body, First, first_place}
 
 -- the last part of the statement is an `if` without `else`, so that an `else` behind it belongs to that (6.8.4.1 paragraph 3)

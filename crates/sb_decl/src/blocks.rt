@@ -1,7 +1,6 @@
 //! Blocks, with the typedef names that their declarations bring into force (C99 6.8.2).
 ghost use Rattle.std.specs.Prelude.{◌≡◌, ◌<◌};
-ghost use Rattle.sb_expr.specs.Meaning.{meant, GivesAs, IsFault};
-ghost use Rattle.sb_declare.specs.Specified as specified;
+ghost use Rattle.sb_lexicon.specs.Meaning.{meant, GivesAs, IsFault};
 ghost use Rattle.sb_decl.specs.Meaning.{nested, plain_body};
 ghost use Rattle.sb_decl.specs.Parts as part;
 ghost use Rattle.sb_decl.specs.Readers as spec;
@@ -15,12 +14,13 @@ use crate::lexemes::{
 use crate::statements::{item_within, statement};
 use crate::values::{Body, DeclaredStatement};
 use sb_base::{Name, Names, Token};
-use sb_declare::{Seat, barred};
-use sb_expr::{
+use sb_lexicon::{
     Feature, Lexicon, Read, ReadFault, Reason, is_keyword_next, is_mark_next, take_mark,
 };
 use sb_sal::{is_bare, is_listed};
-use sb_tree::{Keyword, Mark, Stmt};
+use sb_sign::{Keyword, Mark};
+use sb_specifier::{Seat, barred};
+use sb_tree::Stmt;
 use std::alloc::Global;
 
 /// As many declarations and statements as there are before a brace.

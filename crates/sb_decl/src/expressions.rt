@@ -1,18 +1,21 @@
 //! Expressions in statements (C99 6.8.3).
 ghost use Rattle.std.specs.Prelude.{◌≡◌, ◌<◌};
-ghost use Rattle.sb_expr.specs.Lexicon as lex;
-ghost use Rattle.sb_expr.specs.Meaning.{Gives, GivesAs, Reads};
+ghost use Rattle.sb_lexicon.specs.Lexicon as lex;
+ghost use Rattle.sb_expr.specs.Meaning.{Reads};
+ghost use Rattle.sb_lexicon.specs.Meaning.{Gives, GivesAs};
 ghost use Rattle.sb_expr.specs.Expression.{Conditional};
 ghost use Rattle.sb_expr.specs.Readers.{expr_reader};
-ghost use Rattle.sb_declare.specs.Specified as specified;
+ghost use Rattle.sb_specifier.specs.Specified as specified;
 ghost use Rattle.sb_decl.specs.Meaning.{nested, plain_optional};
 ghost use Rattle.sb_decl.specs.Readers as spec;
 ghost use Rattle.sb_tree.specs.Plain.{plain_expr, plain_stmt};
 
 use crate::lexemes::{front_place, reading};
 use sb_base::{Name, Names, Token};
-use sb_expr::{Found, Level, Read, ReadFault, is_mark_next, take_mark, within};
-use sb_tree::{Expr, Mark, Stmt};
+use sb_expr::{Found, Level, within};
+use sb_lexicon::{Read, ReadFault, is_mark_next, take_mark};
+use sb_sign::Mark;
+use sb_tree::{Expr, Stmt};
 use std::alloc::Global;
 
 /// An expression.

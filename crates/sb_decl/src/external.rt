@@ -1,8 +1,8 @@
 //! Functions and translation units (C99 6.9).
 ghost use Rattle.std.specs.Prelude.{◌≡◌, ◌≤◌, ◌<◌, true, IfOk};
 ghost use Rattle.sb_parse.specs.Parser.{at_next};
-ghost use Rattle.sb_expr.specs.Meaning.{GivesAs};
-ghost use Rattle.sb_declare.specs.Meaning.{IsKnown, IsRoomy};
+ghost use Rattle.sb_lexicon.specs.Meaning.{GivesAs};
+ghost use Rattle.sb_specifier.specs.Meaning.{IsKnown, IsRoomy};
 ghost use Rattle.sb_declare.specs.Openings.{plain_counted, plain_declared, plain_opening};
 ghost use Rattle.sb_decl.specs.Parts as part;
 ghost use Rattle.sb_decl.specs.Readers as spec;
@@ -14,8 +14,8 @@ use sb_declare::{
     Counted, Declared, Opening, definition, first_declarator, is_nameless_next, nameless,
     names_inside, opening_within, rest_of_declaration,
 };
-use sb_expr::{Read, ReadFault, is_mark};
-use sb_tree::Mark;
+use sb_lexicon::{Read, ReadFault, is_mark};
+use sb_sign::Mark;
 use std::alloc::{AllocError, Global};
 
 /// The typedef names in force in the body of a function.
@@ -172,7 +172,7 @@ fn externals<'a>(
 }
 
 /// A whole list of tokens.
-pub(crate) fn unit<'a>(
+pub fn unit<'a>(
     alloc: Global,
     names: &Names,
     tokens: &'a [Token],

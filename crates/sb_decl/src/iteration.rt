@@ -1,6 +1,6 @@
 //! Iteration (C99 6.8.5).
 ghost use Rattle.std.specs.Prelude.{◌≡◌, ◌<◌, false};
-ghost use Rattle.sb_expr.specs.Meaning.{GivesAs};
+ghost use Rattle.sb_lexicon.specs.Meaning.{GivesAs};
 ghost use Rattle.sb_decl.specs.Meaning.{nested, plain_declared, plain_first};
 ghost use Rattle.sb_decl.specs.Readers as spec;
 ghost use Rattle.sb_tree.specs.Plain.{plain_stmt};
@@ -11,8 +11,9 @@ use crate::statements::{first_within, statement_within};
 use crate::values::{DeclaredStatement, First};
 use sb_base::{Name, Names, Place, Token};
 use sb_declare::declaration;
-use sb_expr::{Read, ReadFault, is_mark_next, take_keyword, take_mark};
-use sb_tree::{Keyword, Mark, Stmt};
+use sb_lexicon::{Read, ReadFault, is_mark_next, take_keyword, take_mark};
+use sb_sign::{Keyword, Mark};
+use sb_tree::Stmt;
 use std::alloc::Global;
 
 /// A declaration as a statement.
@@ -54,8 +55,9 @@ pub(crate) fn repeated<'a>(
     let word = take_keyword(&reading(names, types), Keyword::While, tokens)?;
     let test = in_parentheses(alloc, names, types, below, word.rest)?;
     let body = statement_within(alloc, names, types, false, below, test.rest)?;
+    let statement = Box::new(alloc, body.value)?;
     Ok(Read {
-        value: Stmt::while_loop(alloc, test.value, body.value, word.value.place)?,
+        value: Stmt::while_loop(test.value, statement, word.value.place),
         rest: body.rest,
     })
 }
@@ -76,11 +78,12 @@ pub(crate) fn done_first<'a>(
     let lexicon = reading(names, types);
     let word = take_keyword(&lexicon, Keyword::Do, tokens)?;
     let body = statement_within(alloc, names, types, false, below, word.rest)?;
+    let statement = Box::new(alloc, body.value)?;
     let end = take_keyword(&lexicon, Keyword::While, body.rest)?;
     let test = in_parentheses(alloc, names, types, below, end.rest)?;
     let last = semicolon(names, types, below, test.rest)?;
     Ok(Read {
-        value: Stmt::do_loop(alloc, body.value, test.value, word.value.place)?,
+        value: Stmt::do_loop(statement, test.value, word.value.place),
         rest: last.rest,
     })
 }
@@ -111,19 +114,22 @@ pub(crate) fn first<'a>(
     }
     if is_declaration_next(&lexicon, tokens) {
         let found = declared(alloc, names, types, below, tokens)?;
+        let DeclaredStatement { statement, types } = found.value;
+        let statement = Box::new(alloc, statement)?;
         return Ok(Read {
             value: First {
-                statement: Some(found.value.statement),
-                types: found.value.types,
+                statement: Some(statement),
+                types,
             },
             rest: found.rest,
         });
     }
     let found = evaluated(alloc, names, types, below, tokens)?;
+    let statement = Box::new(alloc, found.value)?;
     let types = Vec::from_slice(alloc, types)?;
     Ok(Read {
         value: First {
-            statement: Some(found.value),
+            statement: Some(statement),
             types,
         },
         rest: found.rest,
@@ -160,8 +166,9 @@ fn stepped<'a>(
     )?;
     let close = take_mark(&reading(names, &types), Mark::CloseParenthesis, step.rest)?;
     let body = statement_within(alloc, names, &types, false, below, close.rest)?;
+    let repeated = Box::new(alloc, body.value)?;
     Ok(Read {
-        value: Stmt::for_loop(alloc, statement, test.value, step.value, body.value, place)?,
+        value: Stmt::for_loop(statement, test.value, step.value, repeated, place),
         rest: body.rest,
     })
 }

@@ -1,6 +1,6 @@
 //! Jumps (C99 6.8.6).
 ghost use Rattle.std.specs.Prelude.{◌≡◌, ◌<◌};
-ghost use Rattle.sb_expr.specs.Meaning.{GivesAs};
+ghost use Rattle.sb_lexicon.specs.Meaning.{GivesAs};
 ghost use Rattle.sb_decl.specs.Meaning.{nested};
 ghost use Rattle.sb_decl.specs.Parts as part;
 ghost use Rattle.sb_decl.specs.Readers as spec;
@@ -10,8 +10,9 @@ use crate::expressions::optional;
 use crate::labels::cased;
 use crate::lexemes::reading;
 use sb_base::{Name, Names, Token};
-use sb_expr::{Read, ReadFault, is_keyword_next, take_keyword, take_mark, take_member};
-use sb_tree::{Keyword, Mark, Stmt};
+use sb_lexicon::{Read, ReadFault, is_keyword_next, take_keyword, take_mark, take_member};
+use sb_sign::{Keyword, Mark};
+use sb_tree::Stmt;
 use std::alloc::Global;
 
 #[tactic(auto, unfolding(crate::specs::Readers::gone, crate::specs::Readers::semicolon))]

@@ -1,6 +1,6 @@
 //! Labels, and what else begins with a name (C99 6.8.1).
 ghost use Rattle.std.specs.Prelude.{◌≡◌, ◌<◌, true};
-ghost use Rattle.sb_expr.specs.Meaning.{GivesAs};
+ghost use Rattle.sb_lexicon.specs.Meaning.{GivesAs};
 ghost use Rattle.sb_decl.specs.Meaning.{nested};
 ghost use Rattle.sb_decl.specs.Parts as part;
 ghost use Rattle.sb_decl.specs.Readers as spec;
@@ -12,8 +12,9 @@ use crate::lexemes::{
 };
 use crate::statements::statement_within;
 use sb_base::{Name, Names, Token};
-use sb_expr::{Read, ReadFault, Reason, take_keyword, take_mark, take_member};
-use sb_tree::{Keyword, Mark, Stmt};
+use sb_lexicon::{Read, ReadFault, Reason, take_keyword, take_mark, take_member};
+use sb_sign::{Keyword, Mark};
+use sb_tree::Stmt;
 use std::alloc::Global;
 
 /// A label and its statement.
@@ -34,8 +35,9 @@ fn labelled<'a>(
     let label = take_member(&lexicon, tokens)?;
     let colon = take_mark(&lexicon, Mark::Colon, label.rest)?;
     let body = statement_within(alloc, names, types, cases, below, colon.rest)?;
+    let statement = Box::new(alloc, body.value)?;
     Ok(Read {
-        value: Stmt::label(alloc, label.value.0, body.value, label.value.1)?,
+        value: Stmt::label(label.value.0, statement, label.value.1),
         rest: body.rest,
     })
 }
@@ -58,9 +60,10 @@ fn case_of<'a>(
     let value = constant(alloc, names, types, below, word.rest)?;
     let colon = take_mark(&lexicon, Mark::Colon, value.rest)?;
     let body = statement_within(alloc, names, types, true, below, colon.rest)?;
+    let statement = Box::new(alloc, body.value)?;
     let value = Box::into_inner(value.tree);
     Ok(Read {
-        value: Stmt::case(alloc, value, body.value, word.value.place)?,
+        value: Stmt::case(value, statement, word.value.place),
         rest: body.rest,
     })
 }
@@ -82,8 +85,9 @@ fn default_of<'a>(
     let word = take_keyword(&lexicon, Keyword::Default, tokens)?;
     let colon = take_mark(&lexicon, Mark::Colon, word.rest)?;
     let body = statement_within(alloc, names, types, true, below, colon.rest)?;
+    let statement = Box::new(alloc, body.value)?;
     Ok(Read {
-        value: Stmt::default_case(alloc, body.value, word.value.place)?,
+        value: Stmt::default_case(statement, word.value.place),
         rest: body.rest,
     })
 }

@@ -2,23 +2,22 @@
 ghost use Rattle.std.specs.Prelude.{◌≡◌, ◌-◌, ◌&&◌, ◌||◌, false, nat_lt, not, length, take};
 ghost use Rattle.std.specs.Option.{option_map_or};
 ghost use Rattle.sb_parse.specs.Parser.{at_next, token};
-ghost use Rattle.sb_expr.specs.Descent.{at_second};
-ghost use Rattle.sb_expr.specs.Lexicon as lex;
-ghost use Rattle.sb_expr.specs.Meaning.{meant, Gives};
-ghost use Rattle.sb_expr.specs.Readers as expr;
+ghost use Rattle.sb_parse.specs.Descent.{at_second};
+ghost use Rattle.sb_lexicon.specs.Lexicon as lex;
+ghost use Rattle.sb_lexicon.specs.Meaning.{meant, Gives};
+ghost use Rattle.sb_lexicon.specs.Tokens as expr;
 ghost use Rattle.sb_sal.specs.Spellings as spelling;
-ghost use Rattle.sb_declare.specs.Readers as declaring;
-ghost use Rattle.sb_declare.specs.Specified as specified;
+ghost use Rattle.sb_specifier.specs.Readers as declaring;
+ghost use Rattle.sb_specifier.specs.Specified as specified;
 ghost use Rattle.sb_decl.specs.Readers as spec;
-ghost use Rattle.sb_tree.specs.Signs as sign;
+ghost use Rattle.sb_sign.specs.Signs as sign;
 
 use sb_base::{Name, Names, Place, Token};
-use sb_declare::{begins_declaration, is_name, is_storage_word};
-use sb_expr::{
-    Lexicon, Read, ReadFault, begins_expr, is_keyword, is_mark, is_mark_next, is_type_name,
-};
+use sb_expr::begins_expr;
+use sb_lexicon::{Lexicon, Read, ReadFault, is_keyword, is_mark, is_mark_next, is_type_name};
 use sb_sal::{begins_note, is_bare, is_listed, is_unlisted};
-use sb_tree::{Keyword, Mark};
+use sb_sign::{Keyword, Mark};
+use sb_specifier::{begins_declaration, is_name, is_storage_word};
 
 /// By what the tokens outside of annotations are read.
 pub(crate) fn reading<'a>(names: &'a Names, types: &'a [Name]) -> Lexicon<'a>
@@ -93,7 +92,7 @@ fn is_label_keyword(keyword: Keyword) -> bool
 fn begins_with_keyword(lexicon: &Lexicon, token: &Token) -> bool
     ensures { result ≡ option_map_or spec.begins_keyword_statement (sign.keyword_of lexicon.now.names.now.texts token.now) false }
 {
-    match sb_tree::keyword_of(lexicon.names, token) {
+    match sb_sign::keyword_of(lexicon.names, token) {
         Some(keyword) => begins_keyword_statement(keyword),
         None => false,
     }
@@ -103,7 +102,7 @@ fn begins_with_keyword(lexicon: &Lexicon, token: &Token) -> bool
 fn begins_with_case(lexicon: &Lexicon, token: &Token) -> bool
     ensures { result ≡ option_map_or spec.is_label_keyword (sign.keyword_of lexicon.now.names.now.texts token.now) false }
 {
-    match sb_tree::keyword_of(lexicon.names, token) {
+    match sb_sign::keyword_of(lexicon.names, token) {
         Some(keyword) => is_label_keyword(keyword),
         None => false,
     }

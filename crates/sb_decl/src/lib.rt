@@ -2,7 +2,6 @@
 #![tactic(auto)]
 
 mod blocks;
-mod entry;
 mod expressions;
 mod external;
 mod iteration;
@@ -13,4 +12,4 @@ mod selection;
 mod statements;
 mod values;
 
-pub use entry::tree;
+pub use external::unit;

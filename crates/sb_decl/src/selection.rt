@@ -1,6 +1,6 @@
 //! Selection (C99 6.8.4).
 ghost use Rattle.std.specs.Prelude.{◌≡◌, ◌<◌, false};
-ghost use Rattle.sb_expr.specs.Meaning.{GivesAs};
+ghost use Rattle.sb_lexicon.specs.Meaning.{GivesAs};
 ghost use Rattle.sb_decl.specs.Meaning.{nested, plain_other};
 ghost use Rattle.sb_decl.specs.Readers as spec;
 ghost use Rattle.sb_tree.specs.Plain.{plain_stmt};
@@ -9,8 +9,9 @@ use crate::expressions::in_parentheses;
 use crate::lexemes::reading;
 use crate::statements::{block_within, statement_within};
 use sb_base::{Name, Names, Token};
-use sb_expr::{Read, ReadFault, is_keyword_next, take_keyword};
-use sb_tree::{Keyword, Stmt};
+use sb_lexicon::{Read, ReadFault, is_keyword_next, take_keyword};
+use sb_sign::Keyword;
+use sb_tree::Stmt;
 use std::alloc::Global;
 
 /// `else` and a statement, where they are next.
@@ -22,7 +23,7 @@ fn other<'a>(
     types: &[Name],
     below: u32,
     tokens: &'a [Token],
-) -> Result<Read<'a, Option<Stmt>>, ReadFault>
+) -> Result<Read<'a, Option<Box<Stmt>>>, ReadFault>
     requires shallow { below < 200 }
     ensures { GivesAs plain_other (nested spec.other names.now.texts below types.now tokens.now) result }
 {
@@ -36,7 +37,7 @@ fn other<'a>(
     let word = take_keyword(&lexicon, Keyword::Else, tokens)?;
     let statement = statement_within(alloc, names, types, false, below, word.rest)?;
     Ok(Read {
-        value: Some(statement.value),
+        value: Some(Box::new(alloc, statement.value)?),
         rest: statement.rest,
     })
 }
@@ -58,9 +59,10 @@ pub(crate) fn selected<'a>(
     let word = take_keyword(&lexicon, Keyword::If, tokens)?;
     let test = in_parentheses(alloc, names, types, below, word.rest)?;
     let yes = statement_within(alloc, names, types, false, below, test.rest)?;
+    let statement = Box::new(alloc, yes.value)?;
     let no = other(alloc, names, types, below, yes.rest)?;
     Ok(Read {
-        value: Stmt::if_else(alloc, test.value, yes.value, no.value, word.value.place)?,
+        value: Stmt::if_else(test.value, statement, no.value, word.value.place),
         rest: no.rest,
     })
 }
@@ -82,8 +84,9 @@ pub(crate) fn switched<'a>(
     let word = take_keyword(&lexicon, Keyword::Switch, tokens)?;
     let on = in_parentheses(alloc, names, types, below, word.rest)?;
     let body = block_within(alloc, names, types, true, below, on.rest)?;
+    let block = Box::new(alloc, body.value)?;
     Ok(Read {
-        value: Stmt::switch(alloc, on.value, body.value, word.value.place)?,
+        value: Stmt::switch(on.value, block, word.value.place),
         rest: body.rest,
     })
 }

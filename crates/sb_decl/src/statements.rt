@@ -1,9 +1,9 @@
 //! Statements (C99 6.8).
 ghost use Rattle.std.specs.Prelude.{◌≡◌, ◌<◌, ◌≤◌};
 ghost use Rattle.sb_parse.specs.Parser.{refuse};
-ghost use Rattle.sb_expr.specs.Meaning.{meant, GivesAs, IsFault};
-ghost use Rattle.sb_expr.specs.Readers as expr;
-ghost use Rattle.sb_declare.specs.Specified as specified;
+ghost use Rattle.sb_lexicon.specs.Meaning.{meant, GivesAs, IsFault};
+ghost use Rattle.sb_lexicon.specs.Tokens as expr;
+ghost use Rattle.sb_specifier.specs.Specified as specified;
 ghost use Rattle.sb_decl.specs.Meaning.{nested, plain_body, plain_first};
 ghost use Rattle.sb_decl.specs.Parts as part;
 ghost use Rattle.sb_decl.specs.Readers as spec;
@@ -19,9 +19,10 @@ use crate::lexemes::{is_first_next, is_name_next, is_statement_next, reading};
 use crate::selection::{selected, switched};
 use crate::values::{Body, First};
 use sb_base::{Name, Names, Token};
-use sb_declare::{Seat, barred};
-use sb_expr::{Lexicon, Read, ReadFault, is_keyword_next, is_mark_next};
-use sb_tree::{Keyword, Mark, Stmt};
+use sb_lexicon::{Lexicon, Read, ReadFault, is_keyword_next, is_mark_next};
+use sb_sign::{Keyword, Mark};
+use sb_specifier::{Seat, barred};
+use sb_tree::Stmt;
 use std::alloc::Global;
 
 /// A loop, `switch`, or what `jumping` reads.

@@ -13,7 +13,7 @@ pub(crate) struct Body {
 /// The first part of a `for`, if there is one, and the typedef names in force behind it (C99 6.8.5.3).
 #[derive(Drop)]
 pub(crate) struct First {
-    pub(crate) statement: Option<Stmt>,
+    pub(crate) statement: Option<Box<Stmt>>,
     pub(crate) types: Vec<Name>,
 }
 

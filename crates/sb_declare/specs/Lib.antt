@@ -1,9 +1,5 @@
-pub mod Specified
-pub mod Readers
 pub mod Declaration
-pub mod Declarators
-pub mod Meaning
-pub mod Parts
-pub mod Reads
-pub mod Reasons
+pub mod Readers
+pub mod Initialisers
 pub mod Openings
+pub mod Reads

@@ -5,18 +5,18 @@ use Rattle.sb_base.specs.declared.interning.Name.{Name}
 use Rattle.sb_base.specs.declared.refusals.Place.{Place}
 use Rattle.sb_base.specs.declared.tokens.Token.{Token}
 use Rattle.sb_parse.specs.Parser.{Outcome, Parser, done, ◌>>=◌, pure, token, choose, guard, looped}
-use Rattle.sb_tree.specs.declared.sign.Mark.TheVariants as mark
+use Rattle.sb_sign.specs.declared.sign.Mark.TheVariants as mark
 use Rattle.sb_tree.specs.declared.syntax.Storage.{Storage}
 use Rattle.sb_tree.specs.declared.syntax.Storage.TheVariants as storage
 use Rattle.sb_tree.specs.Plain.{plain_decls, plain_init, optional_init, note_list}
 use Rattle.sb_tree.specs.Trees as tree
 use Rattle.sb_tree.specs.Trees.{OptionalInit, TypeTree, NoteTree, DeclTree, depth_of_optional_init, depth_of_type}
-use Rattle.sb_expr.specs.declared.reading.Read.{Read}
-use Rattle.sb_expr.specs.declared.reading.ReadFault.{ReadFault}
-use Rattle.sb_expr.specs.Lexicon.{Lexicon, is_mark}
-use Rattle.sb_expr.specs.Meaning.{IsFault}
+use Rattle.sb_lexicon.specs.declared.reading.Read.{Read}
+use Rattle.sb_lexicon.specs.declared.reading.ReadFault.{ReadFault}
+use Rattle.sb_lexicon.specs.Lexicon.{Lexicon, is_mark}
+use Rattle.sb_lexicon.specs.Meaning.{IsFault}
 use Rattle.sb_expr.specs.Pieces.{typed}
-use Rattle.sb_expr.specs.Readers.{unexpected, too_deep, misplaced_before}
+use Rattle.sb_lexicon.specs.Tokens.{unexpected, too_deep, misplaced_before}
 use Rattle.sb_sal.specs.declared.bearer.Bearer.{Bearer}
 use Rattle.sb_sal.specs.declared.bearer.Bearer.TheVariants as bearer
 use Rattle.sb_sal.specs.Readers.{notes_reader}
@@ -27,15 +27,20 @@ use Rattle.sb_declare.specs.declared.sharing.Listing as declared_listing
 use Rattle.sb_declare.specs.declared.sharing.Shared.{Shared}
 use Rattle.sb_declare.specs.declared.openings.InitialValue.{InitialValue}
 use Rattle.sb_declare.specs.declared.openings.Opening as declared_opening
-use Rattle.sb_declare.specs.Declaration.{nowhere}
-use Rattle.sb_declare.specs.Declarators.{plain_declarator}
-use Rattle.sb_declare.specs.Meaning.{plain_specified, plain_later, type_in}
-use Rattle.sb_declare.specs.Parts.{notes_at, name_in, place_in}
+use Rattle.sb_specifier.specs.Declaration.{nowhere}
+use Rattle.sb_declarator.specs.Declarators.{plain_declarator}
+use Rattle.sb_specifier.specs.Meaning.{plain_specified, plain_later, type_in}
+use Rattle.sb_declarator.specs.Parts.{notes_at}
 use Rattle.sb_declare.specs.Readers as reader
-use Rattle.sb_declare.specs.Readers.{Opening, Listing, Declarator, Declarations, parts, is_assign, is_pardon, with_text, initialiser, misplaced_in, judged_by, declarators, declarator_in}
-use Rattle.sb_declare.specs.Specified.{Specified, reading, storage_of, declared, bearer_of, declares_function}
+use Rattle.sb_specifier.specs.Readers as specifier
+use Rattle.sb_declare.specs.Readers.{Opening, Listing, initialiser, misplaced_in, judged_by, declarator_in}
+use Rattle.sb_specifier.specs.Readers.{Declarator, Declarations, is_assign, is_pardon, name_in, place_in, place_of_base}
+use Rattle.sb_declarator.specs.Readers.{parts, declarators}
+use Rattle.sb_parse.specs.Texts.{with_text}
+use Rattle.sb_specifier.specs.Specified.{Specified, reading, declared, bearer_of, declares_function}
 
 -- its annotations are those with which its tokens begin
+
 abbrev pub plain_opening : List (List ℕ) → ℕ → declared_opening.Opening → Opening
 plain_opening texts below o =
     record { outer = o.outer.now; notes = notes_at texts o.outer.now bearer.Any below o.tokens.now; noted = o.noted.now; specified = plain_specified o.specified; base = type_in (plain_specified o.specified); count = o.count }
@@ -120,14 +125,6 @@ first_declarator texts below o = declarator_in texts below (parts texts below) o
 
 -- ---- declarations without a name, and definitions
 
-abbrev pub place_of_base : TypeTree → Place
-place_of_base (tree.Base code place) = place
-place_of_base (tree.Struct tag members place) = place
-place_of_base (tree.Enum tag items place) = place
-place_of_base (tree.Defined name place) = place
-place_of_base (tree.Const t) = place_of_base t
-place_of_base _ = nowhere
-
 abbrev pub nameless_of : List NoteTree → Storage → Specified → Declarations
 nameless_of notes storage s = record { list = tree.Decl (note_list notes) storage (type_in s) None (place_of_base (type_in s)) tree.NoInit tree.NoStmt ∷ []; types = s.types }
 
@@ -137,7 +134,7 @@ nameless_behind texts below s specified count = pardoned (misplacement texts bel
     token unexpected (is_mark (reading texts specified.types) mark.Semicolon) >>= (λ c. pure (nameless_of (notes_of texts below s) s.storage specified)))
 
 abbrev pub nameless : List (List ℕ) → ℕ → Opening → Parser Token Declarations
-nameless texts below o = reader.nameless texts below (parts texts below) o (reader.place_of_base texts below (parts texts below) o.base)
+nameless texts below o = reader.nameless texts below (parts texts below) o (specifier.place_of_base o.base)
 
 -- the definition of a function with this body
 abbrev pub definition : List (List ℕ) → ℕ → Opening → Declarator → tree.StmtTree → Declarations

@@ -2,42 +2,14 @@
 ghost use Rattle.std.specs.Prelude.{◌≡◌, [], IfOk};
 ghost use Rattle.std.specs.Option.{option_map};
 ghost use Rattle.sb_tree.specs.Plain.{plain_decl, plain_init, plain_notes, plain_stmt, plain_type, optional_init, optional_stmt};
-ghost use Rattle.sb_declare.specs.Declarators.{plain_declarator};
+ghost use Rattle.sb_declarator.specs.Declarators.{plain_declarator};
 ghost use Rattle.sb_declare.specs.Openings as part;
-ghost use Rattle.sb_declare.specs.Parts.{simple_decl};
 
-use crate::declarators::Declarator;
-use crate::specified::NOWHERE;
-use sb_base::Place;
+use sb_declarator::Declarator;
 use sb_expr::typed;
+use sb_specifier::NOWHERE;
 use sb_tree::{Decl, Init, Note, Stmt, Storage, TypeName};
 use std::alloc::{AllocError, Global};
-
-/// A member or a parameter. Its place is that of its name, or this one.
-pub(crate) fn simple_decl(
-    alloc: Global,
-    notes: Vec<Note>,
-    base: Box<TypeName>,
-    declarator: Declarator,
-    place: Place,
-) -> Result<Decl, AllocError>
-    ensures { IfOk result (λ d. plain_decl d ≡ simple_decl (plain_notes notes.items) (plain_type base.value) (plain_declarator [] declarator) place) }
-{
-    let tree = typed(alloc, base, declarator.pieces)?;
-    let (name, place) = match declarator.name {
-        Some((name, place)) => (Some(name), place),
-        None => (None, place),
-    };
-    Ok(Decl::new(
-        notes,
-        Storage::Plain,
-        Box::into_inner(tree),
-        name,
-        place,
-        None,
-        None,
-    ))
-}
 
 /// A declaration in a scope, with its initialiser or the body of a function.
 pub(crate) fn declaration_of(

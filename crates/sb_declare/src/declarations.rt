@@ -1,30 +1,29 @@
 //! Declarations in a scope (C99 6.7).
 ghost use Rattle.std.specs.Prelude.{◌≡◌, ◌≤◌, ◌<◌, ◌+◌, [], ◌∷◌, IfOk, IfErr};
-ghost use Rattle.sb_expr.specs.declared.reading.ReadFault.TheVariants.{Memory};
-ghost use Rattle.sb_expr.specs.Meaning.{GivesAs};
+ghost use Rattle.sb_lexicon.specs.declared.reading.ReadFault.TheVariants.{Memory};
+ghost use Rattle.sb_lexicon.specs.Meaning.{GivesAs};
 ghost use Rattle.sb_tree.specs.Plain.{plain_decl, plain_stmt, plain_type};
 ghost use Rattle.sb_tree.specs.Trees.{depth_of_type};
-ghost use Rattle.sb_declare.specs.Declarators.{plain_declarator};
-ghost use Rattle.sb_declare.specs.Meaning.{inside, plain_later, plain_specified, type_in, IsKnown, IsRoomy};
+ghost use Rattle.sb_declarator.specs.Declarators.{plain_declarator};
+ghost use Rattle.sb_declarator.specs.Meaning.{inside};
+ghost use Rattle.sb_specifier.specs.Meaning.{plain_later, plain_specified, type_in, IsKnown, IsRoomy};
 ghost use Rattle.sb_declare.specs.Openings.{plain_counted, plain_declared, plain_opening};
 ghost use Rattle.sb_declare.specs.Openings as part;
 ghost use Rattle.sb_declare.specs.Readers as spec;
-ghost use Rattle.sb_declare.specs.Specified as specified;
+ghost use Rattle.sb_specifier.specs.Specified as specified;
 
-use crate::barring::barred;
 use crate::building::declaration_of;
 use crate::openings::{Opening, is_nameless_next, opening_within};
-use crate::seat::Seat;
 use crate::sharing::{
     Counted, Listing, Shared, behind, declarator_on, declared_by, judged, next_declarators,
     notes_again,
 };
-use crate::specified::Specified;
-use crate::tokens::take_mark;
 use sb_base::{Name, Names, Token};
-use sb_expr::{Lexicon, Read, ReadFault};
+use sb_lexicon::{Lexicon, Read, ReadFault};
 use sb_sal::Bearer;
-use sb_tree::{Decl, Mark, Stmt, TypeName};
+use sb_sign::Mark;
+use sb_specifier::{Seat, Specified, barred, take_mark};
+use sb_tree::{Decl, Stmt, TypeName};
 use std::alloc::{AllocError, Global};
 
 /// Declarations in a scope, and the typedef names in force behind them.
@@ -200,7 +199,7 @@ fn nameless_behind<'a>(
     })
 }
 
-/// A declaration that declares no name: at the first token of its specifiers.
+/// A declaration that declares no name: at the place of its type.
 pub fn nameless<'a>(
     alloc: Global,
     names: &Names,
@@ -276,7 +275,7 @@ pub fn declaration<'a>(
 
 // ---- definitions of functions
 
-/// The definition of a function with this body. Nothing is left but want of memory.
+/// The definition of a function with this body. Its only fault is want of memory.
 pub fn definition(
     alloc: Global,
     names: &Names,

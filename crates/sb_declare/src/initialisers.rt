@@ -1,17 +1,17 @@
 //! Initialisers (C99 6.7.8).
 ghost use Rattle.std.specs.Prelude.{◌≡◌, ◌≤◌, ◌<◌, ◌+◌, not, IfOk};
 ghost use Rattle.sb_parse.specs.Parser.{at_next, looped};
-ghost use Rattle.sb_expr.specs.Meaning.{meant, IsFault};
-ghost use Rattle.sb_declare.specs.Meaning.{plain_initialisers, AreInitialisersKnown, ReadsInitial, ReadsInitialisers};
-ghost use Rattle.sb_declare.specs.Parts.{no_initialiser};
+ghost use Rattle.sb_lexicon.specs.Meaning.{meant, IsFault};
+ghost use Rattle.sb_declare.specs.Initialisers.{plain_initialisers, AreInitialisersKnown, ReadsInitial, ReadsInitialisers, no_initialiser};
+ghost use Rattle.sb_specifier.specs.Readers.{begins_designator, is_close_brace};
 ghost use Rattle.sb_declare.specs.Readers as spec;
 
-use crate::tokens::comma_behind;
 use sb_base::Token;
-use sb_expr::{
-    Feature, Level, Lexicon, ReadFault, is_expr_next, is_mark, is_mark_next, take_mark, within,
-};
-use sb_tree::{Init, Mark};
+use sb_expr::{Level, is_expr_next, within};
+use sb_lexicon::{Feature, Lexicon, ReadFault, is_mark, is_mark_next, take_mark};
+use sb_sign::Mark;
+use sb_specifier::comma_behind;
+use sb_tree::Init;
 use std::alloc::Global;
 
 /// An initialiser, how deep it is, and the tokens after it.
@@ -34,7 +34,7 @@ pub(crate) struct Initialisers<'a> {
 
 /// Whether a designator comes next, which is left out.
 fn is_designator_next(lexicon: &Lexicon, tokens: &[Token]) -> bool
-    ensures { result ≡ at_next (spec.begins_designator (meant lexicon.now)) tokens.now }
+    ensures { result ≡ at_next (begins_designator (meant lexicon.now)) tokens.now }
 {
     match tokens.first() {
         Some(token) => {
@@ -46,7 +46,7 @@ fn is_designator_next(lexicon: &Lexicon, tokens: &[Token]) -> bool
 
 /// Whether another initialiser has to come before the closing brace.
 fn is_unclosed(lexicon: &Lexicon, tokens: &[Token]) -> bool
-    ensures { result ≡ at_next (λ t. not (spec.is_close_brace (meant lexicon.now) t)) tokens.now }
+    ensures { result ≡ at_next (λ t. not (is_close_brace (meant lexicon.now) t)) tokens.now }
 {
     match tokens.first() {
         Some(token) => !is_mark(lexicon, Mark::CloseBrace, token),
@@ -66,7 +66,7 @@ fn no_room(lexicon: &Lexicon, tokens: &[Token]) -> ReadFault
 
 /// One more initialiser, and a comma where there is one.
 #[cycle(initialising)]
-#[tactic(auto, unfolding(crate::specs::Readers::next_initialiser), using(crate::proofs::Growing::more_inits, crate::proofs::Growing::depth_of_more_inits))]
+#[tactic(auto, unfolding(crate::specs::Readers::next_initialiser), using(sb_specifier::proofs::Growing::more_inits, sb_specifier::proofs::Growing::depth_of_more_inits))]
 fn next_initialiser<'a>(
     alloc: Global,
     lexicon: &Lexicon,
@@ -108,7 +108,7 @@ fn more_initialisers<'a>(
     requires shallow { below < 200 }
     requires known { AreInitialisersKnown first }
     requires low { first.depth ≤ below }
-    ensures read { ReadsInitialisers (looped (λ t. not (spec.is_close_brace (meant lexicon.now) t)) (spec.next_initialiser (meant lexicon.now) below (spec.initialiser (meant lexicon.now) below)) (plain_initialisers first.entry) first.entry.rest.now) result }
+    ensures read { ReadsInitialisers (looped (λ t. not (is_close_brace (meant lexicon.now) t)) (spec.next_initialiser (meant lexicon.now) below (spec.initialiser (meant lexicon.now) below)) (plain_initialisers first.entry) first.entry.rest.now) result }
     ensures depth { IfOk result (λ is. is.depth ≤ below) }
 {
     let most = first.rest.len();

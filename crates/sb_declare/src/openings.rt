@@ -1,21 +1,22 @@
 //! What stands before and behind the declarators of a declaration in a scope (C99 6.7, 6.7.8).
-ghost use Rattle.std.specs.Prelude.{◌≡◌, ◌≤◌, ◌<◌, ◌+◌, ◌-◌, ◌&&◌, length, take, IfOk};
+ghost use Rattle.std.specs.Prelude.{◌≡◌, ◌≤◌, ◌<◌, ◌-◌, length, take, IfOk};
 ghost use Rattle.sb_parse.specs.Parser.{at_next};
-ghost use Rattle.sb_expr.specs.Meaning.{meant};
-ghost use Rattle.sb_declare.specs.Meaning.{inside, IsKnown, IsRoomy};
-ghost use Rattle.sb_declare.specs.Openings.{plain_opening, ReadsOpening, ReadsInitialised};
+ghost use Rattle.sb_lexicon.specs.Meaning.{meant};
+ghost use Rattle.sb_declarator.specs.Meaning.{inside};
+ghost use Rattle.sb_specifier.specs.Meaning.{IsKnown, IsRoomy};
+ghost use Rattle.sb_declare.specs.Openings.{ReadsOpening, ReadsInitialised};
 ghost use Rattle.sb_declare.specs.Openings as part;
-ghost use Rattle.sb_declare.specs.Readers as spec;
+ghost use Rattle.sb_declare.specs.Readers as declaration;
+ghost use Rattle.sb_specifier.specs.Readers as spec;
 
 use crate::initialisers::initialiser;
-use crate::seat::Seat;
-use crate::specified::Specified;
-use crate::specifiers::specifiers;
-use crate::tokens::take_mark;
 use sb_base::{Name, Names, PpKind, Token};
-use sb_expr::{Lexicon, Read, ReadFault, is_mark, is_mark_next};
+use sb_declarator::specifiers;
+use sb_lexicon::{Lexicon, Read, ReadFault, is_mark, is_mark_next};
 use sb_sal::{Bearer, notes_within};
-use sb_tree::{Init, Mark};
+use sb_sign::Mark;
+use sb_specifier::{Seat, Specified, take_mark};
+use sb_tree::Init;
 use std::alloc::Global;
 
 /// A declaration up to its first declarator: the typedef names in force before it, its tokens from the annotations on,
@@ -55,7 +56,7 @@ pub fn opening_within<'n, 'a>(
 ) -> Result<Read<'a, Opening<'n, 'a>>, ReadFault>
     requires shallow { below < 200 }
     requires some { 1 ≤ below }
-    ensures read { ReadsOpening names.now.texts below (inside spec.opening names.now.texts below types.now tokens.now) result }
+    ensures read { ReadsOpening names.now.texts below (inside declaration.opening names.now.texts below types.now tokens.now) result }
     ensures known { IfOk result (λ r. IsKnown r.value.specified) }
     ensures fits { IfOk result (λ r. IsRoomy below r.value.specified) }
 {

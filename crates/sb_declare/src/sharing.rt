@@ -1,22 +1,22 @@
 //! The declarators of one declaration in a scope (C99 6.7), and the annotations that may stand on each.
 ghost use Rattle.std.specs.Prelude.{◌≡◌, ◌≤◌, ◌<◌, ◌+◌, false, nat_eq, IfOk, IfErr};
-ghost use Rattle.sb_expr.specs.declared.reading.ReadFault.TheVariants.{Memory};
-ghost use Rattle.sb_expr.specs.Meaning.{stop_number, Gives, GivesAs};
-ghost use Rattle.sb_expr.specs.Readers.{misplaced};
+ghost use Rattle.sb_lexicon.specs.declared.reading.ReadFault.TheVariants.{Memory};
+ghost use Rattle.sb_lexicon.specs.Meaning.{stop_number, Gives, GivesAs};
+ghost use Rattle.sb_lexicon.specs.Tokens.{misplaced};
 ghost use Rattle.sb_tree.specs.Plain.{plain_notes, plain_type};
 ghost use Rattle.sb_declare.specs.Openings.{plain_counted, plain_listing};
 ghost use Rattle.sb_declare.specs.Openings as part;
-ghost use Rattle.sb_declare.specs.Specified as specified;
+ghost use Rattle.sb_specifier.specs.Specified as specified;
 
 use crate::building::declaration_of;
-use crate::declarators::{Declarator, declarator_within};
 use crate::openings::{front, initialised, is_pardon};
-use crate::specified::{Later, declare};
-use crate::tokens::{is_mark_next, take_mark};
 use sb_base::{Name, Names, Place, Token};
-use sb_expr::{Lexicon, Read, ReadFault, Reason};
+use sb_declarator::{Declarator, declarator_within};
+use sb_lexicon::{Lexicon, Read, ReadFault, Reason};
 use sb_sal::{Bearer, notes_within};
-use sb_tree::{Decl, Mark, Note, Storage, TypeName};
+use sb_sign::Mark;
+use sb_specifier::{Later, declare, is_mark_next, take_mark};
+use sb_tree::{Decl, Note, Storage, TypeName};
 use std::alloc::{AllocError, Global};
 
 /// What the declarators of one declaration share: the typedef names in force before it, its tokens from the annotations

@@ -1,8 +1,8 @@
 use Rattle.std.proofs.Common.{◌<◌, length, sym, ap, subst, ◌∙◌, arith}
 use Rattle.std.proofs.lemmas.Result.{err_from_is_err_and}
-use Rattle.sb_expr.proofs.Loops.{loop_ends, loop_over, loop_goes, loop_faults}
-use Rattle.sb_expr.specs.Meaning.{IsFault}
-use Rattle.sb_declare.specs.Specified.{reading}
+use Rattle.sb_lexicon.proofs.Loops.{loop_ends, loop_over, loop_goes, loop_faults}
+use Rattle.sb_lexicon.specs.Meaning.{IsFault}
+use Rattle.sb_specifier.specs.Specified.{reading}
 use Rattle.sb_decl.specs.Meaning.{plain_body}
 use Rattle.sb_decl.specs.Parts as part
 use Rattle.sb_decl.proofs.Levels.{one_statement, one_block, one_item, no_statements, no_blocks, no_items}

@@ -1,8 +1,8 @@
 use Rattle.std.proofs.Common.{◌≡◌, ◌+◌, ◌*◌, ◌-◌, not, length}
 use Rattle.sb_base.specs.declared.tokens.Token.{Token}
 use Rattle.sb_parse.specs.Parser.{loop}
-use Rattle.sb_declare.specs.Readers.{is_close_brace}
-use Rattle.sb_declare.specs.Specified.{reading}
+use Rattle.sb_specifier.specs.Readers.{is_close_brace}
+use Rattle.sb_specifier.specs.Specified.{reading}
 use Rattle.sb_decl.specs.Meaning.{plain_body}
 use Rattle.sb_decl.specs.Readers.{statements}
 use Rattle.sb_decl.proofs.+statement.Given as goal

@@ -1,10 +1,10 @@
 use Rattle.std.proofs.Common.{sym}
 use Rattle.sb_parse.specs.Parser.{refuse}
-use Rattle.sb_expr.specs.Meaning.{meant}
-use Rattle.sb_declare.specs.declared.seat.Seat.TheVariants as seat
-use Rattle.sb_declare.specs.Readers.{Declarations}
+use Rattle.sb_lexicon.specs.Meaning.{meant}
+use Rattle.sb_specifier.specs.declared.seat.Seat.TheVariants as seat
+use Rattle.sb_specifier.specs.Readers.{Declarations}
 use Rattle.sb_decl.proofs.Barred.{barred_else}
-use Rattle.sb_expr.specs.Readers.{bad_arguments, is_open}
+use Rattle.sb_lexicon.specs.Tokens.{bad_arguments, is_open}
 use Rattle.sb_decl.proofs.blocks.behind_bare.Goals as goal
 
 pub returns : goal.returns

@@ -1,6 +1,6 @@
 use Rattle.std.proofs.Common.{sym, ap, ◌∙◌}
-use Rattle.sb_expr.specs.Meaning.{meant}
-use Rattle.sb_declare.specs.Specified.{reading}
+use Rattle.sb_lexicon.specs.Meaning.{meant}
+use Rattle.sb_specifier.specs.Specified.{reading}
 use Rattle.sb_decl.specs.Meaning.{plain_body}
 use Rattle.sb_decl.proofs.Crowding.{named_crowded}
 use Rattle.sb_decl.proofs.blocks.named_declaration.Goals as goal

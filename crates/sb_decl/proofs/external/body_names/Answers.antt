@@ -1,5 +1,5 @@
 use Rattle.std.proofs.Common.{◌≡◌, IfOk, subst}
-use Rattle.sb_declare.specs.Declarators.{plain_declarator}
+use Rattle.sb_declarator.specs.Declarators.{plain_declarator}
 use Rattle.sb_declare.specs.Openings.{plain_opening}
 use Rattle.sb_decl.proofs.Bodies.{declared_as_by}
 use Rattle.sb_decl.proofs.external.body_names.Goals as goal

@@ -2,7 +2,7 @@ use Rattle.std.proofs.Common.{◌∙◌, ap, sym}
 use Rattle.std.proofs.lemmas.Result.{err_from_is_err_and}
 use Rattle.sb_tree.specs.Plain.{plain_decls}
 use Rattle.sb_declare.specs.Openings.{plain_declared}
-use Rattle.sb_declare.proofs.Growing.{joined_decls}
+use Rattle.sb_specifier.proofs.Growing.{joined_decls}
 use Rattle.sb_decl.proofs.Externals.{external_gives, external_faults}
 use Rattle.sb_decl.proofs.external.external.Goals as goal
 

@@ -1,6 +1,6 @@
 use Rattle.std.proofs.Common.{length, sym}
 use Rattle.std.proofs.lemmas.Result.{err_from_is_err_and}
-use Rattle.sb_expr.proofs.Loops.{loop_ends, loop_over, loop_goes, loop_faults}
+use Rattle.sb_lexicon.proofs.Loops.{loop_ends, loop_over, loop_goes, loop_faults}
 use Rattle.sb_declare.specs.Openings.{plain_declared}
 use Rattle.sb_decl.proofs.external.externals.Goals as goal
 

@@ -1,5 +1,5 @@
 use Rattle.std.proofs.Common.{◌<◌, subst, arith}
-use Rattle.sb_expr.specs.Meaning.{IsFault}
+use Rattle.sb_lexicon.specs.Meaning.{IsFault}
 use Rattle.sb_decl.specs.Parts as part
 use Rattle.sb_decl.proofs.Levels.{one_first, no_firsts}
 use Rattle.sb_decl.proofs.statements.first_within.Goals as goal

@@ -1,10 +1,10 @@
 use Rattle.std.proofs.Common.{sym, ◌||◌}
 use Rattle.sb_parse.specs.Parser.{refuse}
-use Rattle.sb_expr.specs.Meaning.{meant}
-use Rattle.sb_declare.specs.declared.seat.Seat.TheVariants as seat
-use Rattle.sb_declare.specs.Readers.{Declarations, is_semicolon}
+use Rattle.sb_lexicon.specs.Meaning.{meant}
+use Rattle.sb_specifier.specs.declared.seat.Seat.TheVariants as seat
+use Rattle.sb_specifier.specs.Readers.{Declarations, is_semicolon}
 use Rattle.sb_decl.proofs.Barred.{barred_else}
-use Rattle.sb_expr.specs.Readers.{too_deep, begins_expr}
+use Rattle.sb_lexicon.specs.Tokens.{too_deep, begins_expr}
 use Rattle.sb_decl.proofs.statements.no_first.Goals as goal
 
 pub returns : goal.returns

@@ -1,5 +1,5 @@
 use Rattle.std.proofs.Common.{◌≤◌, arith}
-use Rattle.sb_declare.proofs.Lowering.{no_declared, some_declared}
+use Rattle.sb_declare.proofs.steps.Readers.{no_declared, some_declared}
 use Rattle.sb_declare.proofs.declarations.declaration.Goals as goal
 
 pub returns-then-left-lt2 : goal.returns-then-left-lt2

@@ -1,6 +1,6 @@
 use Rattle.std.proofs.Common.{sym}
 use Rattle.sb_declare.specs.Openings.{plain_opening}
-use Rattle.sb_declare.proofs.Shares.{declarator_is}
+use Rattle.sb_declare.proofs.steps.Sharing.{declarator_is}
 use Rattle.sb_declare.proofs.declarations.first_declarator.Goals as goal
 
 pub returns : goal.returns

@@ -1,6 +1,6 @@
 use Rattle.std.proofs.Common.{refl}
 use Rattle.sb_declare.specs.Openings.{plain_opening}
-use Rattle.sb_declare.proofs.Shares.{nameless_is}
+use Rattle.sb_declare.proofs.steps.Sharing.{nameless_is}
 use Rattle.sb_declare.proofs.declarations.nameless.Goals as goal
 
 pub returns : goal.returns

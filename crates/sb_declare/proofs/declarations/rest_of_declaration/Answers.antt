@@ -1,7 +1,7 @@
 use Rattle.std.proofs.Common.{refl, subst}
-use Rattle.sb_expr.specs.Meaning.{GivesAs}
+use Rattle.sb_lexicon.specs.Meaning.{GivesAs}
 use Rattle.sb_declare.specs.Openings.{plain_counted, plain_declared, plain_opening, rest_behind}
-use Rattle.sb_declare.proofs.Shares.{rest_is}
+use Rattle.sb_declare.proofs.steps.Sharing.{rest_is}
 use Rattle.sb_declare.proofs.declarations.rest_of_declaration.Goals as goal
 
 pub returns : goal.returns

@@ -1,9 +1,9 @@
 use Rattle.std.proofs.Common.{◌<◌, sym, length, arith}
 use Rattle.std.proofs.lemmas.Result.{err_from_is_err_and}
-use Rattle.sb_expr.specs.Meaning.{meant}
-use Rattle.sb_expr.proofs.Loops.{loop_ends, loop_over, loop_goes, loop_faults}
-use Rattle.sb_declare.specs.Meaning.{plain_initialisers}
-use Rattle.sb_declare.proofs.Lowering.{some_initialiser}
+use Rattle.sb_lexicon.specs.Meaning.{meant}
+use Rattle.sb_lexicon.proofs.Loops.{loop_ends, loop_over, loop_goes, loop_faults}
+use Rattle.sb_declare.specs.Initialisers.{plain_initialisers}
+use Rattle.sb_declare.proofs.steps.Readers.{some_initialiser}
 use Rattle.sb_declare.proofs.initialisers.+initialising.Goals as goal
 
 pub more_initialisers-returns-then-not-is_unclosed-clause-read : goal.more_initialisers-returns-then-not-is_unclosed-clause-read

@@ -1,8 +1,9 @@
 use Rattle.std.proofs.Common.{◌≡◌, ◌≤◌, ◌+◌, ◌*◌, ◌-◌, length, not}
 use Rattle.sb_parse.specs.Parser.{loop}
-use Rattle.sb_expr.specs.Meaning.{meant}
-use Rattle.sb_declare.specs.Meaning.{plain_initialisers, AreInitialisersKnown}
+use Rattle.sb_lexicon.specs.Meaning.{meant}
+use Rattle.sb_declare.specs.Initialisers.{plain_initialisers, AreInitialisersKnown}
 use Rattle.sb_declare.specs.Readers as spec
+use Rattle.sb_specifier.specs.Readers.{is_close_brace}
 use Rattle.sb_declare.proofs.initialisers.+initialising.Given as goal
 
 abbrev pub decreases-initialiser : goal.decreases-initialiser
@@ -24,7 +25,7 @@ abbrev pub invariant-more_initialisers-loop-turn : goal.invariant-more_initialis
 invariant-more_initialisers-loop-turn l =
     let w = meant l.fn.lexicon in
     let turn = spec.next_initialiser w l.fn.below (spec.initialiser w l.fn.below) in
-    (loop (λ t. not (spec.is_close_brace w t)) turn (length l.fn.first.rest.now) (plain_initialisers l.fn.first) l.fn.first.rest.now
-    ≡ loop (λ t. not (spec.is_close_brace w t)) turn (l.most - l._turn) (plain_initialisers l.found) l.found.rest.now)
+    (loop (λ t. not (is_close_brace w t)) turn (length l.fn.first.rest.now) (plain_initialisers l.fn.first) l.fn.first.rest.now
+    ≡ loop (λ t. not (is_close_brace w t)) turn (l.most - l._turn) (plain_initialisers l.found) l.found.rest.now)
     × AreInitialisersKnown l.found
     × (l.found.depth ≤ l.fn.below)

@@ -1,12 +1,12 @@
 use Rattle.std.proofs.Common.{◌≡◌, ◌∙◌, ◌+◌, ◌-◌, false, not, length, take, ap, sym, subst}
 use Rattle.std.proofs.lemmas.Result.{err_from_is_err_and}
 use Rattle.sb_parse.specs.Parser.{done}
-use Rattle.sb_expr.specs.Meaning.{meant, IsFault}
-use Rattle.sb_declare.specs.Declarators.{plain_declarator}
+use Rattle.sb_lexicon.specs.Meaning.{meant, IsFault}
+use Rattle.sb_declarator.specs.Declarators.{plain_declarator}
 use Rattle.sb_declare.specs.Openings as part
-use Rattle.sb_declare.specs.Readers.{declarators, parts}
-use Rattle.sb_declare.specs.Specified.{reading, bearer_of, declares_function}
-use Rattle.sb_declare.proofs.Shares.{judged_faults}
+use Rattle.sb_declarator.specs.Readers.{declarators, parts}
+use Rattle.sb_specifier.specs.Specified.{reading, bearer_of, declares_function}
+use Rattle.sb_declare.proofs.steps.Sharing.{judged_faults}
 use Rattle.sb_declare.proofs.sharing.declarator_on.Goals as goal
 
 pub returns-in_err-judged : goal.returns-in_err-judged

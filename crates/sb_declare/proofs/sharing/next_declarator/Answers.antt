@@ -1,12 +1,12 @@
 use Rattle.std.proofs.Common.{◌≡◌, ◌∙◌, suc, ap, sym, subst, arith}
 use Rattle.std.proofs.lemmas.Result.{err_from_is_err_and}
-use Rattle.sb_expr.specs.Meaning.{GivesAs}
+use Rattle.sb_lexicon.specs.Meaning.{GivesAs}
 use Rattle.sb_tree.specs.Plain.{plain_type}
 use Rattle.sb_tree.specs.Trees.{depth_of_type}
-use Rattle.sb_declare.specs.Meaning.{plain_later}
+use Rattle.sb_specifier.specs.Meaning.{plain_later}
 use Rattle.sb_declare.specs.Openings as part
 use Rattle.sb_declare.specs.Openings.{plain_counted, plain_listing}
-use Rattle.sb_declare.proofs.Shares.{next_faults, next_then}
+use Rattle.sb_declare.proofs.steps.Sharing.{next_faults, next_then}
 use Rattle.sb_declare.proofs.sharing.next_declarator.Goals as goal
 
 pub returns-in_err-found : goal.returns-in_err-found

@@ -1,6 +1,6 @@
 use Rattle.std.proofs.Common.{sym, length}
 use Rattle.std.proofs.lemmas.Result.{err_from_is_err_and}
-use Rattle.sb_expr.proofs.Loops.{loop_ends, loop_over, loop_goes, loop_faults}
+use Rattle.sb_lexicon.proofs.Loops.{loop_ends, loop_over, loop_goes, loop_faults}
 use Rattle.sb_declare.specs.Openings.{plain_listing}
 use Rattle.sb_declare.proofs.sharing.next_declarators.Goals as goal
 

@@ -1,9 +1,9 @@
 use Rattle.std.proofs.Common.{◌≡◌, ◌-◌, [], length}
 use Rattle.sb_parse.specs.Parser.{loop}
-use Rattle.sb_tree.specs.declared.sign.Mark.TheVariants as mark
-use Rattle.sb_expr.specs.Lexicon.{is_mark}
+use Rattle.sb_sign.specs.declared.sign.Mark.TheVariants as mark
+use Rattle.sb_lexicon.specs.Lexicon.{is_mark}
 use Rattle.sb_declare.specs.Openings.{plain_listing, next_declarator}
-use Rattle.sb_declare.specs.Specified.{reading}
+use Rattle.sb_specifier.specs.Specified.{reading}
 use Rattle.sb_declare.proofs.sharing.next_declarators.Given as goal
 
 abbrev pub invariant-loop-turn : goal.invariant-loop-turn

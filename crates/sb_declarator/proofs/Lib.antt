@@ -1,0 +1,4 @@
+pub mod Growing
+pub mod laws
+pub mod steps
+pub mod telling

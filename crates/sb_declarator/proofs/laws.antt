@@ -1,0 +1,13 @@
+pub mod Beginnings
+pub mod Calls
+pub mod Declarators
+pub mod Fresh
+pub mod Heads
+pub mod Members
+pub mod Parameter
+pub mod Parameters
+pub mod Parts
+pub mod Pointers
+pub mod Sizes
+pub mod Tokens
+pub mod Typed

@@ -1,0 +1,4 @@
+pub mod Readers
+pub mod Declarators
+pub mod Meaning
+pub mod Parts

@@ -1,0 +1,310 @@
+//! The parameters of functions (C99 6.7.5.3).
+ghost use Rattle.std.specs.Prelude.{◌≡◌, ◌≤◌, ◌<◌, ◌-◌, ◌+◌, [], suc, IfOk};
+ghost use Rattle.sb_parse.specs.Parser.{looped};
+ghost use Rattle.sb_lexicon.specs.Lexicon.{is_mark as marked};
+ghost use Rattle.sb_lexicon.specs.Meaning.{meant};
+ghost use Rattle.sb_sal.specs.declared.bearer.Bearer.TheVariants as bearer;
+ghost use Rattle.sb_sal.specs.Meaning.{AreNotesKnown, ReadsNotes};
+ghost use Rattle.sb_sal.specs.Readers.{notes_reader};
+ghost use Rattle.sb_sal.specs.Spellings.{may_stand};
+ghost use Rattle.sb_sign.specs.declared.sign.Mark.TheVariants as mark;
+ghost use Rattle.sb_tree.specs.Plain.{plain_decls, plain_notes, plain_type};
+ghost use Rattle.sb_declarator.specs.Declarators as part;
+ghost use Rattle.sb_declarator.specs.Meaning.{inside, plain_declarations, AreKnown, IsListKnown, ReadsDeclarations};
+ghost use Rattle.sb_specifier.specs.Meaning.{IsBaseKnown};
+ghost use Rattle.sb_declarator.specs.Readers as spec;
+ghost use Rattle.sb_specifier.specs.Specified.{reading};
+
+use crate::building::simple_decl;
+use crate::declarators::declarator_within;
+use crate::members::{DeclList, Declarations};
+use crate::specifier_list::specifiers;
+use crate::void::{is_close_second, is_old_next, only_void, void_parameters};
+use sb_base::{Name, Names, Place, Token};
+use sb_lexicon::{Feature, Lexicon, Read, ReadFault, Reason, is_keyword_next};
+use sb_sal::{Bearer, NoteList, notes_within};
+use sb_sign::{Keyword, Mark};
+use sb_specifier::{Based, NOWHERE, Seat, hide, is_mark_next, take_mark};
+use std::alloc::Global;
+
+// ---- one parameter
+
+/// The annotations of a parameter.
+#[tactic(auto, using(crate::proofs::steps::Parameters::notes_end))]
+fn notes_before<'a>(
+    alloc: Global,
+    names: &Names,
+    below: u32,
+    types: &[Name],
+    tokens: &'a [Token],
+) -> Result<NoteList<'a>, ReadFault>
+    requires shallow { below ≤ 200 }
+    ensures read { ReadsNotes (notes_reader (reading names.now.texts types.now) below (may_stand (reading names.now.texts types.now) bearer.Parameter) tokens.now) result }
+    ensures depth { IfOk result (λ ns. ns.depth ≤ below) }
+    ensures ends { IfOk result (λ ns. part.IsEnd tokens.now ns.rest.now) }
+{
+    let lexicon = Lexicon {
+        names,
+        types,
+        in_note: false,
+    };
+    notes_within(alloc, &lexicon, Bearer::Parameter, below, tokens)
+}
+
+/// The place of the first token of annotations and specifiers; `behind`: the tokens behind the annotations.
+fn first_place(tokens: &[Token], behind: &[Token], rest: &[Token]) -> Place
+    requires ends { part.IsEnd tokens.now behind.now }
+    ensures { result ≡ part.first_of tokens.now behind.now rest.now }
+{
+    match tokens.first() {
+        Some(first) if behind.len() < tokens.len() || rest.len() < behind.len() => first.place,
+        _ => NOWHERE,
+    }
+}
+
+/// The declarator of a parameter on its type, behind the parameters before it.
+#[cycle(declaring)]
+#[tactic(auto, using(sb_specifier::proofs::Growing::more_decls, sb_specifier::proofs::Growing::depth_of_more_decls, crate::proofs::Growing::depth_of_simple))]
+fn parameter_behind<'a>(
+    alloc: Global,
+    lexicon: &Lexicon,
+    below: u32,
+    notes: NoteList<'_>,
+    base: Based,
+    place: Place,
+    so_far: DeclList<'a>,
+) -> Result<Read<'a, Declarations>, ReadFault>
+    requires shallow { below < 200 }
+    requires notes { AreNotesKnown notes }
+    requires few { notes.depth ≤ below }
+    requires base { IsBaseKnown base }
+    requires fits { base.depth ≤ below }
+    requires known { IsListKnown so_far }
+    requires low { so_far.depth ≤ below + 1 }
+    ensures read { ReadsDeclarations (part.parameter_behind (meant lexicon.now) below (plain_notes notes.entry.list.items) (plain_type base.tree.value) place (plain_decls so_far.entry.list.items) so_far.entry.rest.now) result }
+    ensures depth { IfOk result (λ r. r.value.depth ≤ below + 1) }
+{
+    let room = below - base.depth;
+    let found = declarator_within(alloc, lexicon, false, true, below, room, so_far.rest)?;
+    let count = found.value.pieces.len() as u32;
+    let depth = found.value.depth.max(base.depth + count);
+    let types = without_name(found.value.name, Vec::from_slice(alloc, lexicon.types)?);
+    let tree = simple_decl(alloc, notes.list, base.tree, found.value, place)?;
+    let mut list = so_far.list;
+    list.push(tree)?;
+    Ok(Read {
+        value: Declarations {
+            list,
+            depth: so_far.depth.max(notes.depth.max(depth) + 1),
+            types,
+        },
+        rest: found.rest,
+    })
+}
+
+/// One more parameter.
+#[cycle(declaring)]
+#[tactic(auto, unfolding(crate::specs::Readers::parameter), using(crate::proofs::steps::Parameters::first_place_in))]
+fn parameter<'a>(
+    alloc: Global,
+    names: &Names,
+    below: u32,
+    so_far: Declarations,
+    tokens: &'a [Token],
+) -> Result<Read<'a, Declarations>, ReadFault>
+    requires shallow { below < 200 }
+    requires some { 1 ≤ below }
+    requires known { AreKnown so_far }
+    requires low { so_far.depth ≤ below + 1 }
+    ensures read { ReadsDeclarations (inside spec.parameter names.now.texts below (plain_declarations so_far) tokens.now) result }
+    ensures depth { IfOk result (λ r. r.value.depth ≤ below + 1) }
+{
+    let outer = so_far.types;
+    let notes = notes_before(alloc, names, below, outer.as_slice(), tokens)?;
+    let found = specifiers(
+        alloc,
+        names,
+        Seat::Prototype,
+        below,
+        outer.as_slice(),
+        notes.rest,
+    )?;
+    let place = first_place(tokens, notes.rest, found.rest);
+    let specified = found.value;
+    let base = specified
+        .said
+        .based(alloc, specified.depth, specified.constant)?;
+    let lexicon = Lexicon {
+        names,
+        types: specified.types.as_slice(),
+        in_note: false,
+    };
+    let before = DeclList {
+        list: so_far.list,
+        depth: so_far.depth,
+        rest: found.rest,
+    };
+    parameter_behind(alloc, &lexicon, below, notes, base, place, before)
+}
+
+/// The typedef names that are in force behind a parameter of this name.
+fn without_name(name: Option<(Name, Place)>, types: Vec<Name>) -> Vec<Name>
+    ensures { result.items ≡ part.hidden_by name types.items }
+{
+    let mut left = types;
+    if let Some((hidden, _place)) = name {
+        hide(&mut left, hidden);
+    }
+    left
+}
+
+// ---- lists of parameters
+
+/// A comma and one more parameter, of at most 32.
+#[cycle(declaring)]
+#[tactic(auto, unfolding(crate::specs::Readers::next_parameter, crate::specs::Readers::another_parameter), using(crate::proofs::steps::Parameters::count_of_decls))]
+fn next_parameter<'a>(
+    alloc: Global,
+    names: &Names,
+    below: u32,
+    so_far: Declarations,
+    tokens: &'a [Token],
+) -> Result<Read<'a, Declarations>, ReadFault>
+    requires shallow { below < 200 }
+    requires some { 1 ≤ below }
+    requires known { AreKnown so_far }
+    requires low { so_far.depth ≤ below + 1 }
+    ensures read { ReadsDeclarations (inside spec.next_parameter names.now.texts below (plain_declarations so_far) tokens.now) result }
+    ensures depth { IfOk result (λ r. r.value.depth ≤ below + 1) }
+{
+    if so_far.list.len() >= 32 {
+        return Err(ReadFault::at(Reason::TooManyParameters, tokens));
+    }
+    let comma = take_mark(names, Mark::Comma, tokens)?;
+    if is_mark_next(names, Mark::Ellipsis, comma.rest) {
+        return Err(ReadFault::lacks(Feature::VariableArguments, comma.rest));
+    }
+    parameter(alloc, names, below, so_far, comma.rest)
+}
+
+/// As many commas as there are, each with one more parameter.
+#[cycle(declaring)]
+fn more_parameters<'a>(
+    alloc: Global,
+    names: &Names,
+    below: u32,
+    first: Declarations,
+    tokens: &'a [Token],
+) -> Result<Read<'a, Declarations>, ReadFault>
+    requires shallow { below < 200 }
+    requires some { 1 ≤ below }
+    requires known { AreKnown first }
+    requires low { first.depth ≤ below + 1 }
+    ensures read { ReadsDeclarations (looped (marked (reading names.now.texts []) mark.Comma) (inside spec.next_parameter names.now.texts below) (plain_declarations first) tokens.now) result }
+    ensures depth { IfOk result (λ r. r.value.depth ≤ below + 1) }
+{
+    let mut found = Read {
+        value: first,
+        rest: tokens,
+    };
+    for _turn in 0..tokens.len() {
+        if !is_mark_next(names, Mark::Comma, found.rest) {
+            return Ok(found);
+        }
+        found = next_parameter(alloc, names, below, found.value, found.rest)?;
+    }
+    Ok(found)
+}
+
+/// Parameters, each at most `below + 1` deep, where these typedef names are in force.
+#[cycle(declaring)]
+#[tactic(auto, unfolding(crate::specs::Readers::parameters_at))]
+fn parameters_at<'a>(
+    alloc: Global,
+    names: &Names,
+    below: u32,
+    types: &[Name],
+    tokens: &'a [Token],
+) -> Result<Read<'a, Declarations>, ReadFault>
+    requires shallow { below < 200 }
+    requires some { 1 ≤ below }
+    ensures read { ReadsDeclarations (inside spec.parameters_at names.now.texts below types.now tokens.now) result }
+    ensures depth { IfOk result (λ r. r.value.depth ≤ below + 1) }
+{
+    let none = Declarations {
+        list: Vec::new(alloc),
+        depth: 0,
+        types: Vec::from_slice(alloc, types)?,
+    };
+    let first = parameter(alloc, names, below, none, tokens)?;
+    more_parameters(alloc, names, below, first.value, first.rest)
+}
+
+/// The parameters of a function under so many pieces, which have room.
+#[cycle(declaring)]
+fn inner_parameters<'a>(
+    alloc: Global,
+    lexicon: &Lexicon,
+    below: u32,
+    count: u32,
+    tokens: &'a [Token],
+) -> Result<Read<'a, Declarations>, ReadFault>
+    requires shallow { below < 200 }
+    requires room { count + 3 ≤ below }
+    ensures read { ReadsDeclarations (part.inner_parameters (meant lexicon.now) below count tokens.now) result }
+    ensures depth { IfOk result (λ r. r.value.depth ≤ below - suc count) }
+{
+    parameters_at(
+        alloc,
+        lexicon.names,
+        below - (count + 2),
+        lexicon.types,
+        tokens,
+    )
+}
+
+/// The parameters of a function under so many pieces, which are no old definition's.
+#[cycle(declaring)]
+fn some_parameters<'a>(
+    alloc: Global,
+    lexicon: &Lexicon,
+    below: u32,
+    count: u32,
+    tokens: &'a [Token],
+) -> Result<Read<'a, Declarations>, ReadFault>
+    requires shallow { below < 200 }
+    requires few { count < below }
+    ensures read { ReadsDeclarations (part.some_parameters (meant lexicon.now) below count tokens.now) result }
+    ensures depth { IfOk result (λ r. r.value.depth ≤ below - suc count) }
+{
+    if below - (count + 1) < 2 {
+        return only_void(alloc, lexicon, tokens);
+    }
+    if !is_keyword_next(lexicon, Keyword::Void, tokens) {
+        return inner_parameters(alloc, lexicon, below, count, tokens);
+    }
+    if is_close_second(lexicon, tokens) {
+        return void_parameters(alloc, lexicon, tokens);
+    }
+    inner_parameters(alloc, lexicon, below, count, tokens)
+}
+
+/// The parameters of a function under so many pieces.
+#[cycle(declaring)]
+pub(crate) fn parameters<'a>(
+    alloc: Global,
+    lexicon: &Lexicon,
+    below: u32,
+    count: u32,
+    tokens: &'a [Token],
+) -> Result<Read<'a, Declarations>, ReadFault>
+    requires shallow { below < 200 }
+    requires few { count < below }
+    ensures read { ReadsDeclarations (part.parameters (meant lexicon.now) below count tokens.now) result }
+    ensures depth { IfOk result (λ r. r.value.depth ≤ below - suc count) }
+{
+    if is_old_next(lexicon, tokens) {
+        return Err(ReadFault::lacks(Feature::OldDefinition, tokens));
+    }
+    some_parameters(alloc, lexicon, below, count, tokens)
+}

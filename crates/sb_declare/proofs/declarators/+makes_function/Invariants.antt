@@ -1,5 +1,0 @@
-use Rattle.std.proofs.Common.{length}
-use Rattle.sb_declare.proofs.declarators.+makes_function.Given as goal
-
-abbrev pub decreases-makes_function : goal.decreases-makes_function
-decreases-makes_function l = length l.list.now
