@@ -1,5 +1,11 @@
-//! Tables of texts for the readers of C's grammar, each with the tree that it is read to or with its refusal.
+//! The readers of C's grammar with SAL annotations, as a caller has them: expressions, type names, annotations and
+//! translation units, with what each answer says of the texts of the grammar.
 #![tactic(auto)]
 
-#[cfg(test)]
-mod tests;
+mod annotations;
+mod expressions;
+mod units;
+
+pub use annotations::notes;
+pub use expressions::{expr, type_name};
+pub use units::tree;
