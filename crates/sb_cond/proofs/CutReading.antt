@@ -11,7 +11,7 @@ use Rattle.sb_cond.specs.declared.sign.ConditionToken.{ConditionToken}
 use Rattle.sb_cond.specs.Arithmetic.{unary, binary, selected, selected_value, in_sequence, fault_of, fault_behind, fault_selected, none_at, is_true}
 use Rattle.sb_cond.specs.Cut.{IsCut}
 use Rattle.sb_cond.specs.Expression.{operand_of, prefix_of, operator_of, is_open, is_close, is_question, is_colon, comma_of, Level, Primary, Infix, Conditional, Sequence, IsExpression}
-use Rattle.sb_cond.specs.Readers.{Reader, number_of, fault_in, number_after, number_behind, number_first, number_second, number_in_sequence, renumbered, telling, is_prefix, is_operator, is_comma, is_zero, grouped, primary, prefixed, operand, operated, infix_at, second_branch, branches, conditional, followed, sequence, below}
+use Rattle.sb_cond.specs.Readers.{Reader, number_of, fault_in, number_after, number_behind, number_first, number_second, number_in_sequence, renumbered, telling, is_prefix, is_operator, is_comma, is_zero, group, primary, prefix_expression, operand, operation_on, infix_at, second_branch, branches, conditional, comma_on, sequence, below}
 use Rattle.sb_cond.proofs.Laws.{deeper, infix_law, conditional_law, lawful}
 use Rattle.sb_cond.proofs.Signs.{goes_on, goes_on_conditional, goes_on_sequence, looser, open_not_prefix, question_ends, colon_ends, comma_ends}
 use Rattle.sb_cond.proofs.Stops.{fault_in_number}
@@ -51,9 +51,9 @@ abbrev closing : Operand → Reader
 closing a = token (number_after a) is_close >>= (λ c. pure a)
 
 group_is : (left : ℕ) (o : ConditionToken) (xs : List ConditionToken) → is_open o ≡ true → primary false (below (suc left)) (o ∷ xs) ≡ and_then (sequence (is_zero left) (below left) xs) closing
-unfolding primary grouped below
+unfolding primary group below
 group_is left o xs opens =
-    chosen is_open (guard false 0 (grouped false (below (suc left)))) (taken 0 operand_of) (o ∷ xs) true opens
+    chosen is_open (guard false 0 (group false (below (suc left)))) (taken 0 operand_of) (o ∷ xs) true opens
     ∙ ap (λ b. and_then (if b then done o xs else stop 0 (suc (length xs))) (λ o. below (suc left) entry.Whole >>= closing)) opens
 
 group_stops : (left : ℕ) (o : ConditionToken) (xs : List ConditionToken) (f : Option ℕ) → is_open o ≡ true → EndsWith (sequence (is_zero left) (below left) xs) f → StopsWith (primary false (below (suc left)) (o ∷ xs)) f
@@ -68,19 +68,19 @@ no_prefix (IsCut.behind_group left o xs a opens is) = open_not_prefix o opens
 
 operand_is : (left : ℕ) (xs : List ConditionToken) → at_next is_prefix xs ≡ false → infix_at (is_zero left) (below left) 0 xs ≡ primary (is_zero left) (below left) xs
 unfolding infix_at operand
-operand_is left xs none = chosen is_prefix (guard (is_zero left) 0 (prefixed (is_zero left) (below left))) (primary (is_zero left) (below left)) xs false none
+operand_is left xs none = chosen is_prefix (guard (is_zero left) 0 (prefix_expression (is_zero left) (below left))) (primary (is_zero left) (below left)) xs false none
 
 prefixed_is : (left : ℕ) (t : ConditionToken) (op : Prefix) (xs : List ConditionToken) → prefix_of t ≡ Some op
     → infix_at false (below (suc left)) 0 (t ∷ xs) ≡ and_then (infix_at (is_zero left) (below left) 0 xs) (λ a. pure (unary op a))
-unfolding infix_at operand prefixed below
+unfolding infix_at operand prefix_expression below
 prefixed_is left t op xs e =
-    chosen is_prefix (guard false 0 (prefixed false (below (suc left)))) (primary false (below (suc left))) (t ∷ xs) true (ap is_some e)
+    chosen is_prefix (guard false 0 (prefix_expression false (below (suc left)))) (primary false (below (suc left))) (t ∷ xs) true (ap is_some e)
     ∙ ap (λ v. and_then (taken_as 0 v xs) (λ op. below (suc left) entry.Operand >>= (λ a. pure (unary op a)))) e
 
 -- ---- operators between operands
 
 tighter_is : (left k : ℕ) (xs : List ConditionToken)
-    → infix_at (is_zero left) (below left) (suc k) xs ≡ and_then (infix_at (is_zero left) (below left) k xs) (looped (is_operator (suc k)) (operated (is_zero left) (below left) k (infix_at (is_zero left) (below left) k)))
+    → infix_at (is_zero left) (below left) (suc k) xs ≡ and_then (infix_at (is_zero left) (below left) k xs) (looped (is_operator (suc k)) (operation_on (is_zero left) (below left) k (infix_at (is_zero left) (below left) k)))
 unfolding infix_at
 tighter_is left k xs = refl
 
@@ -120,8 +120,8 @@ module _ (left : ℕ) where
   infix_reader k = infix_at bar part k
 
   operated_is : (k at : ℕ) (t : ConditionToken) (op : Operator) (us : List ConditionToken) (a : Operand) → operator_of (suc k) t ≡ Some (op, at)
-      → operated bar part k (infix_reader k) a (t ∷ us) ≡ and_then (renumbered (number_behind op a) (infix_reader k us)) (λ b. pure (binary at op a b))
-  unfolding operated
+      → operation_on bar part k (infix_reader k) a (t ∷ us) ≡ and_then (renumbered (number_behind op a) (infix_reader k us)) (λ b. pure (binary at op a b))
+  unfolding operation_on
   operated_is k at t op us a e = ap (λ v. and_then (taken_as 0 v us) (λ o. telling (number_behind o.0 a) (infix_reader k) >>= (λ b. pure (binary o.1 o.0 a b)))) e
 
   ends_infix : (k : ℕ) (rest : List ConditionToken) → at_next (is_operator (suc k)) rest ≡ true → at_next (goes_on k) rest ≡ false
@@ -133,19 +133,19 @@ module _ (left : ℕ) where
 
 -- an expression before an operator of its rank
 infix_goes : {left k : ℕ} {xs : List ConditionToken} {a : Operand} → IsExpression left (Infix (suc k)) xs a → (t : ConditionToken) (rest : List ConditionToken) → is_operator (suc k) t ≡ true
-    → GoesOn (is_operator (suc k)) (operated (is_zero left) (below left) k (infix_at (is_zero left) (below left) k)) (infix_at (is_zero left) (below left) (suc k) (xs ++ (t ∷ rest))) a (t ∷ rest)
+    → GoesOn (is_operator (suc k)) (operation_on (is_zero left) (below left) k (infix_at (is_zero left) (below left) k)) (infix_at (is_zero left) (below left) (suc k) (xs ++ (t ∷ rest))) a (t ∷ rest)
 infix_goes (IsExpression.is_tighter left k xs a is) t rest next =
     record {
       turns = suc (length rest);
       enough = omega arith;
       is = tighter_is left k (xs ++ (t ∷ rest))
-          ∙ ap (λ o. and_then o (looped (is_operator (suc k)) (operated (is_zero left) (below left) k (infix_at (is_zero left) (below left) k)))) (infix_reads left k xs a (t ∷ rest) is (looser k (suc k) t (omega arith) next));
+          ∙ ap (λ o. and_then o (looped (is_operator (suc k)) (operation_on (is_zero left) (below left) k (infix_at (is_zero left) (below left) k)))) (infix_reads left k xs a (t ∷ rest) is (looser k (suc k) t (omega arith) next));
     }
 infix_goes (IsExpression.is_binary left k at s op xs ys a b e is_left is_right) t rest next =
     let g = infix_goes is_left s (ys ++ (t ∷ rest)) (ap is_some e) in
     let n = next_turn _ _ _ a s (ys ++ (t ∷ rest)) g (ap is_some e) in
     let right = infix_reads left k ys b (t ∷ rest) is_right (looser k (suc k) t (omega arith) next) in
-    let more = loop (is_operator (suc k)) (operated (is_zero left) (below left) k (infix_at (is_zero left) (below left) k)) n.0 in
+    let more = loop (is_operator (suc k)) (operation_on (is_zero left) (below left) k (infix_at (is_zero left) (below left) k)) n.0 in
     record {
       turns = n.0;
       enough = omega (arith, n.1, length-append ys (t ∷ rest));
@@ -157,7 +157,7 @@ binary_stops : (left k at : ℕ) (t : ConditionToken) (op : Operator) (xs ys : L
     → StopsWith (infix_at (is_zero left) (below left) k ys) f → StopsWith (infix_at (is_zero left) (below left) (suc k) (xs ++ (t ∷ ys))) (fault_behind op a.value f)
 binary_stops left k at t op xs ys a f e is s =
     let n = next_turn _ _ _ a t ys (infix_goes is t ys (ap is_some e)) (ap is_some e) in
-    let more = loop (is_operator (suc k)) (operated (is_zero left) (below left) k (infix_at (is_zero left) (below left) k)) n.0 in
+    let more = loop (is_operator (suc k)) (operation_on (is_zero left) (below left) k (infix_at (is_zero left) (below left) k)) n.0 in
     record {
       number = number_behind op a s.number;
       is = n.2 ∙ ap (λ o. and_then o more) (operated_is left k at t op ys a e ∙ ap (λ o. and_then (renumbered (number_behind op a) o) (λ b. pure (binary at op a b))) s.is);
@@ -248,34 +248,34 @@ second_ends left q c xs ys zs a b f question colon is are ends = by_end ends
 
 -- ---- the comma
 
-sequence_is : (left : ℕ) (xs : List ConditionToken) → sequence (is_zero left) (below left) xs ≡ and_then (conditional (is_zero left) (below left) xs) (looped is_comma (followed (is_zero left) (below left)))
+sequence_is : (left : ℕ) (xs : List ConditionToken) → sequence (is_zero left) (below left) xs ≡ and_then (conditional (is_zero left) (below left) xs) (looped is_comma (comma_on (is_zero left) (below left)))
 unfolding sequence
 sequence_is left xs = refl
 
 sequence_ends : (left : ℕ) (xs : List ConditionToken) (f : Option ℕ) → EndsWith (conditional (is_zero left) (below left) xs) f → EndsWith (sequence (is_zero left) (below left) xs) f
-sequence_ends left xs f (inl s) = inl record { number = s.number; is = sequence_is left xs ∙ ap (λ o. and_then o (looped is_comma (followed (is_zero left) (below left)))) s.is; fault = s.fault }
+sequence_ends left xs f (inl s) = inl record { number = s.number; is = sequence_is left xs ∙ ap (λ o. and_then o (looped is_comma (comma_on (is_zero left) (below left)))) s.is; fault = s.fault }
 sequence_ends left xs f (inr r) =
-    inr record { value = r.value; is = sequence_is left xs ∙ ap (λ o. and_then o (looped is_comma (followed (is_zero left) (below left)))) r.is ∙ over_is _ _ 0 r.value; fault = r.fault }
+    inr record { value = r.value; is = sequence_is left xs ∙ ap (λ o. and_then o (looped is_comma (comma_on (is_zero left) (below left)))) r.is ∙ over_is _ _ 0 r.value; fault = r.fault }
 
 followed_is : (left at : ℕ) (t : ConditionToken) (us : List ConditionToken) (a : Operand) → comma_of t ≡ Some at
-    → followed (is_zero left) (below left) a (t ∷ us) ≡ and_then (renumbered (number_in_sequence at a) (conditional (is_zero left) (below left) us)) (λ b. pure (in_sequence at a b))
-unfolding followed
+    → comma_on (is_zero left) (below left) a (t ∷ us) ≡ and_then (renumbered (number_in_sequence at a) (conditional (is_zero left) (below left) us)) (λ b. pure (in_sequence at a b))
+unfolding comma_on
 followed_is left at t us a e = ap (λ v. and_then (taken_as 0 v us) (λ at. telling (number_in_sequence at a) (conditional (is_zero left) (below left)) >>= (λ b. pure (in_sequence at a b)))) e
 
 sequence_goes : {left : ℕ} {xs : List ConditionToken} {a : Operand} → IsExpression left Sequence xs a → (t : ConditionToken) (rest : List ConditionToken) → is_comma t ≡ true
-    → GoesOn is_comma (followed (is_zero left) (below left)) (sequence (is_zero left) (below left) (xs ++ (t ∷ rest))) a (t ∷ rest)
+    → GoesOn is_comma (comma_on (is_zero left) (below left)) (sequence (is_zero left) (below left) (xs ++ (t ∷ rest))) a (t ∷ rest)
 sequence_goes (IsExpression.is_conditional left xs a is) t rest next =
     record {
       turns = suc (length rest);
       enough = omega arith;
       is = sequence_is left (xs ++ (t ∷ rest))
-          ∙ ap (λ o. and_then o (looped is_comma (followed (is_zero left) (below left)))) ((conditional_law left (deeper left)).complete xs a (t ∷ rest) is (comma_ends t next));
+          ∙ ap (λ o. and_then o (looped is_comma (comma_on (is_zero left) (below left)))) ((conditional_law left (deeper left)).complete xs a (t ∷ rest) is (comma_ends t next));
     }
 sequence_goes (IsExpression.is_sequence left at s xs ys a b e is_left is_right) t rest next =
     let g = sequence_goes is_left s (ys ++ (t ∷ rest)) (ap is_some e) in
     let n = next_turn _ _ _ a s (ys ++ (t ∷ rest)) g (ap is_some e) in
     let right = (conditional_law left (deeper left)).complete ys b (t ∷ rest) is_right (comma_ends t next) in
-    let more = loop is_comma (followed (is_zero left) (below left)) n.0 in
+    let more = loop is_comma (comma_on (is_zero left) (below left)) n.0 in
     record {
       turns = n.0;
       enough = omega (arith, n.1, length-append ys (t ∷ rest));
@@ -287,23 +287,23 @@ comma_ends_with : (left at : ℕ) (t : ConditionToken) (xs ys : List ConditionTo
     → EndsWith (conditional (is_zero left) (below left) ys) f → EndsWith (sequence (is_zero left) (below left) (xs ++ (t ∷ ys))) (fault_of (none_at at a.value))
 comma_ends_with left at t xs ys a f e is ends = by_end ends
   where
-    n : (m : ℕ) × (length ys ≤ m) × (sequence (is_zero left) (below left) (xs ++ (t ∷ ys)) ≡ and_then (followed (is_zero left) (below left) a (t ∷ ys)) (loop is_comma (followed (is_zero left) (below left)) m))
+    n : (m : ℕ) × (length ys ≤ m) × (sequence (is_zero left) (below left) (xs ++ (t ∷ ys)) ≡ and_then (comma_on (is_zero left) (below left) a (t ∷ ys)) (loop is_comma (comma_on (is_zero left) (below left)) m))
     n = next_turn _ _ _ a t ys (sequence_goes is t ys (ap is_some e)) (ap is_some e)
 
     more : Operand → Reader
-    more = loop is_comma (followed (is_zero left) (below left)) n.0
+    more = loop is_comma (comma_on (is_zero left) (below left)) n.0
 
     by_end : EndsWith (conditional (is_zero left) (below left) ys) f → EndsWith (sequence (is_zero left) (below left) (xs ++ (t ∷ ys))) (fault_of (none_at at a.value))
     by_end (inl s) =
         inl record {
           number = number_in_sequence at a s.number;
-          is = n.2 ∙ ap (λ o. and_then o (loop is_comma (followed (is_zero left) (below left)) n.0)) (followed_is left at t ys a e ∙ ap (λ o. and_then (renumbered (number_in_sequence at a) o) (λ b. pure (in_sequence at a b))) s.is);
+          is = n.2 ∙ ap (λ o. and_then o (loop is_comma (comma_on (is_zero left) (below left)) n.0)) (followed_is left at t ys a e ∙ ap (λ o. and_then (renumbered (number_in_sequence at a) o) (λ b. pure (in_sequence at a b))) s.is);
           fault = fault_in_number (fault_of (none_at at a.value));
         }
     by_end (inr r) =
         inr record {
           value = in_sequence at a r.value;
-          is = n.2 ∙ ap (λ o. and_then o (loop is_comma (followed (is_zero left) (below left)) n.0)) (followed_is left at t ys a e ∙ ap (λ o. and_then (renumbered (number_in_sequence at a) o) (λ b. pure (in_sequence at a b))) r.is)
+          is = n.2 ∙ ap (λ o. and_then o (loop is_comma (comma_on (is_zero left) (below left)) n.0)) (followed_is left at t ys a e ∙ ap (λ o. and_then (renumbered (number_in_sequence at a) o) (λ b. pure (in_sequence at a b))) r.is)
               ∙ over_is _ _ n.0 (in_sequence at a r.value);
           fault = refl;
         }
@@ -318,7 +318,7 @@ at_cut (IsCut.in_primary left xs f c) = stopped _ _ f (operand_is left xs (no_pr
 at_cut (IsCut.in_prefixed left t op xs f e c) = let s = at_cut c in record { number = s.number; is = prefixed_is left t op xs e ∙ ap (λ o. and_then o (λ a. pure (unary op a))) s.is; fault = s.fault }
 at_cut (IsCut.in_tighter left k xs f c) =
     let s = at_cut c in
-    record { number = s.number; is = tighter_is left k xs ∙ ap (λ o. and_then o (looped (is_operator (suc k)) (operated (is_zero left) (below left) k (infix_at (is_zero left) (below left) k)))) s.is; fault = s.fault }
+    record { number = s.number; is = tighter_is left k xs ∙ ap (λ o. and_then o (looped (is_operator (suc k)) (operation_on (is_zero left) (below left) k (infix_at (is_zero left) (below left) k)))) s.is; fault = s.fault }
 at_cut (IsCut.in_binary left k at t op xs ys a f e is c) = binary_stops left k at t op xs ys a f e is (at_cut c)
 at_cut (IsCut.in_infix left xs f c) = let s = at_cut c in inl record { number = s.number; is = conditional_is left xs ∙ ap (λ o. and_then o (maybe_branches left)) s.is; fault = s.fault }
 at_cut (IsCut.too_deep xs a is) = inr (too_deep_reads xs a is)

@@ -11,7 +11,7 @@ use Rattle.sb_cond.specs.declared.sign.ConditionToken.{ConditionToken}
 use Rattle.sb_cond.specs.Arithmetic.{unary, binary, selected, in_sequence as in_a_sequence, fault_of, fault_behind, fault_selected, none_at}
 use Rattle.sb_cond.specs.Cut.{IsCut, nothing, in_group, behind_group, in_primary, in_prefixed, in_tighter, in_binary, in_infix, too_deep, in_first, behind_first, in_second, in_conditional, in_sequence}
 use Rattle.sb_cond.specs.Expression.{operand_of, prefix_of, operator_of, is_open, is_close, is_question, is_colon, comma_of, Level, Primary, Infix, Conditional, Sequence, IsExpression, is_tighter, is_conditional}
-use Rattle.sb_cond.specs.Readers.{Reader, number_of, fault_in, number_after, number_behind, number_first, number_second, number_in_sequence, renumbered, is_prefix, is_operator, is_comma, is_zero, grouped, primary, prefixed, operand, operated, infix_at, second_branch, branches, conditional, followed, sequence, at_entry, below}
+use Rattle.sb_cond.specs.Readers.{Reader, number_of, fault_in, number_after, number_behind, number_first, number_second, number_in_sequence, renumbered, is_prefix, is_operator, is_comma, is_zero, group, primary, prefix_expression, operand, operation_on, infix_at, second_branch, branches, conditional, comma_on, sequence, at_entry, below}
 use Rattle.sb_cond.proofs.Laws.{level_of, less_one, deeper, infix_law, conditional_law, operated_head, turns_are, followed_head, sequences_are}
 use Rattle.sb_cond.proofs.Signs.{goes_on}
 use Rattle.sb_cond.proofs.Stops.{bound_stop, token_stops, token_reads, taken_stops, taken_reads, token_passes, taken_passes, renumbered_stop, renumbered_done, fault_in_number}
@@ -78,8 +78,8 @@ module _ (left : ℕ) (C : Cuts left) where
   abbrev part : Entry → Reader
   part = below left
 
-  grouped_cut : (left : ℕ) → Cuts left → is_zero left ≡ false → (ts : List ConditionToken) (n k : ℕ) → at_next is_open ts ≡ true → grouped (is_zero left) (below left) ts ≡ stop n k → CutAt left Primary ts n k
-  unfolding grouped
+  grouped_cut : (left : ℕ) → Cuts left → is_zero left ≡ false → (ts : List ConditionToken) (n k : ℕ) → at_next is_open ts ≡ true → group (is_zero left) (below left) ts ≡ stop n k → CutAt left Primary ts n k
+  unfolding group
   grouped_cut zero C deep ts n k next h = absurd (cc deep)
   grouped_cut (suc l) C deep ts n k next h = go (bound_stop (token 0 is_open ts) (λ o. below (suc l) entry.Whole >>= (λ a. token (number_after a) is_close >>= (λ c. pure a))) n k h)
     where
@@ -117,18 +117,18 @@ module _ (left : ℕ) (C : Cuts left) where
   unfolding primary
   primary_cut ts n k h = by_test (at_next is_open ts) refl
     where
-      guarded : (b : Bool) → bar ≡ b → at_next is_open ts ≡ true → guard bar 0 (grouped bar part) ts ≡ stop n k → CutAt left Primary ts n k
-      guarded true e next s = let barred : stop 0 (length ts) ≡ stop n k = sym (ap (λ b. guard b 0 (grouped bar part) ts) e) ∙ s in at_once left ts n k (cc barred) (cc barred)
-      guarded false e next s = grouped_cut left C e ts n k next (sym (ap (λ b. guard b 0 (grouped bar part) ts) e) ∙ s)
+      guarded : (b : Bool) → bar ≡ b → at_next is_open ts ≡ true → guard bar 0 (group bar part) ts ≡ stop n k → CutAt left Primary ts n k
+      guarded true e next s = let barred : stop 0 (length ts) ≡ stop n k = sym (ap (λ b. guard b 0 (group bar part) ts) e) ∙ s in at_once left ts n k (cc barred) (cc barred)
+      guarded false e next s = grouped_cut left C e ts n k next (sym (ap (λ b. guard b 0 (group bar part) ts) e) ∙ s)
 
       by_test : (b : Bool) → at_next is_open ts ≡ b → CutAt left Primary ts n k
-      by_test true e = guarded bar refl e (sym (chosen is_open (guard bar 0 (grouped bar part)) (taken 0 operand_of) ts true e) ∙ h)
+      by_test true e = guarded bar refl e (sym (chosen is_open (guard bar 0 (group bar part)) (taken 0 operand_of) ts true e) ∙ h)
       by_test false e =
-          let w : (0 ≡ n) × (k ≡ length ts) = taken_stops 0 operand_of ts n k (sym (chosen is_open (guard bar 0 (grouped bar part)) (taken 0 operand_of) ts false e) ∙ h) in
+          let w : (0 ≡ n) × (k ≡ length ts) = taken_stops 0 operand_of ts n k (sym (chosen is_open (guard bar 0 (group bar part)) (taken 0 operand_of) ts false e) ∙ h) in
           at_once left ts n k w.0 w.1
 
-  prefixed_cut : (left : ℕ) → Cuts left → is_zero left ≡ false → (ts : List ConditionToken) (n k : ℕ) → at_next is_prefix ts ≡ true → prefixed (is_zero left) (below left) ts ≡ stop n k → CutAt left (Infix 0) ts n k
-  unfolding prefixed
+  prefixed_cut : (left : ℕ) → Cuts left → is_zero left ≡ false → (ts : List ConditionToken) (n k : ℕ) → at_next is_prefix ts ≡ true → prefix_expression (is_zero left) (below left) ts ≡ stop n k → CutAt left (Infix 0) ts n k
+  unfolding prefix_expression
   prefixed_cut zero C deep ts n k next h = absurd (cc deep)
   prefixed_cut (suc l) C deep ts n k next h = go (bound_stop (taken 0 prefix_of ts) (λ op. below (suc l) entry.Operand >>= (λ a. pure (unary op a))) n k h)
     where
@@ -149,22 +149,22 @@ module _ (left : ℕ) (C : Cuts left) where
   unfolding operand
   operand_cut ts n k h = by_test (at_next is_prefix ts) refl
     where
-      guarded : (b : Bool) → bar ≡ b → at_next is_prefix ts ≡ true → guard bar 0 (prefixed bar part) ts ≡ stop n k → CutAt left (Infix 0) ts n k
+      guarded : (b : Bool) → bar ≡ b → at_next is_prefix ts ≡ true → guard bar 0 (prefix_expression bar part) ts ≡ stop n k → CutAt left (Infix 0) ts n k
       guarded true e next s =
-          let barred : stop 0 (length ts) ≡ stop n k = sym (ap (λ b. guard b 0 (prefixed bar part) ts) e) ∙ s in
+          let barred : stop 0 (length ts) ≡ stop n k = sym (ap (λ b. guard b 0 (prefix_expression bar part) ts) e) ∙ s in
           at_level left Primary (Infix 0) ts n k (in_primary left) (at_once left ts n k (cc barred) (cc barred))
-      guarded false e next s = prefixed_cut left C e ts n k next (sym (ap (λ b. guard b 0 (prefixed bar part) ts) e) ∙ s)
+      guarded false e next s = prefixed_cut left C e ts n k next (sym (ap (λ b. guard b 0 (prefix_expression bar part) ts) e) ∙ s)
 
       by_test : (b : Bool) → at_next is_prefix ts ≡ b → CutAt left (Infix 0) ts n k
-      by_test true e = guarded bar refl e (sym (chosen is_prefix (guard bar 0 (prefixed bar part)) (primary bar part) ts true e) ∙ h)
-      by_test false e = at_level left Primary (Infix 0) ts n k (in_primary left) (primary_cut ts n k (sym (chosen is_prefix (guard bar 0 (prefixed bar part)) (primary bar part) ts false e) ∙ h))
+      by_test true e = guarded bar refl e (sym (chosen is_prefix (guard bar 0 (prefix_expression bar part)) (primary bar part) ts true e) ∙ h)
+      by_test false e = at_level left Primary (Infix 0) ts n k (in_primary left) (primary_cut ts n k (sym (chosen is_prefix (guard bar 0 (prefix_expression bar part)) (primary bar part) ts false e) ∙ h))
 
   -- ---- operators between operands
 
   operated_cut : (i : ℕ) → ((ts : List ConditionToken) (n k : ℕ) → infix_at bar part i ts ≡ stop n k → CutAt left (Infix i) ts n k)
-      → (a : Operand) (xs ts : List ConditionToken) (n k : ℕ) → IsExpression left (Infix (suc i)) xs a → at_next (is_operator (suc i)) ts ≡ true → operated bar part i (infix_at bar part i) a ts ≡ stop n k
+      → (a : Operand) (xs ts : List ConditionToken) (n k : ℕ) → IsExpression left (Infix (suc i)) xs a → at_next (is_operator (suc i)) ts ≡ true → operation_on bar part i (infix_at bar part i) a ts ≡ stop n k
       → CutBehind left (Infix (suc i)) xs ts n k
-  unfolding operated
+  unfolding operation_on
   operated_cut i below_it a xs ts n k is next h = go (bound_stop (taken 0 (operator_of (suc i)) ts) (λ op us. and_then (renumbered (number_behind op.0 a) (infix_at bar part i us)) (λ b. pure (binary op.1 op.0 a b))) n k h)
     where
       go : (taken 0 (operator_of (suc i)) ts ≡ stop n k) ⊎ ((op : Operator × ℕ) × (r : List ConditionToken) × (taken 0 (operator_of (suc i)) ts ≡ done op r)
@@ -190,7 +190,7 @@ module _ (left : ℕ) (C : Cuts left) where
                     (in_binary left i d.0.1 opening.0 d.0.0 xs c.front a (fault_in w.0) opening.2 is c.is);
               }
 
-  operated_reads : (i : ℕ) (a b : Operand) (xs ts rest : List ConditionToken) → IsExpression left (Infix (suc i)) xs a → at_next (is_operator (suc i)) ts ≡ true → operated bar part i (infix_at bar part i) a ts ≡ done b rest
+  operated_reads : (i : ℕ) (a b : Operand) (xs ts rest : List ConditionToken) → IsExpression left (Infix (suc i)) xs a → at_next (is_operator (suc i)) ts ≡ true → operation_on bar part i (infix_at bar part i) a ts ≡ done b rest
       → (us : List ConditionToken) × (ts ≡ us ++ rest) × IsExpression left (Infix (suc i)) (xs ++ us) b
   operated_reads i a b xs ts rest is next h =
       let u = (operated_head left (deeper left) i (infix_law left (deeper left) i) a).sound ts b rest next h in
@@ -199,15 +199,15 @@ module _ (left : ℕ) (C : Cuts left) where
   infix_cut : (i : ℕ) (ts : List ConditionToken) (n k : ℕ) → infix_at bar part i ts ≡ stop n k → CutAt left (Infix i) ts n k
   unfolding infix_at
   infix_cut zero ts n k h = operand_cut ts n k h
-  infix_cut (suc i) ts n k h = go (bound_stop (infix_at bar part i ts) (looped (is_operator (suc i)) (operated bar part i (infix_at bar part i))) n k h) (infix_cut i)
+  infix_cut (suc i) ts n k h = go (bound_stop (infix_at bar part i ts) (looped (is_operator (suc i)) (operation_on bar part i (infix_at bar part i))) n k h) (infix_cut i)
     where
-      go : (infix_at bar part i ts ≡ stop n k) ⊎ ((a : Operand) × (r : List ConditionToken) × (infix_at bar part i ts ≡ done a r) × (loop (is_operator (suc i)) (operated bar part i (infix_at bar part i)) (length r) a r ≡ stop n k))
+      go : (infix_at bar part i ts ≡ stop n k) ⊎ ((a : Operand) × (r : List ConditionToken) × (infix_at bar part i ts ≡ done a r) × (loop (is_operator (suc i)) (operation_on bar part i (infix_at bar part i)) (length r) a r ≡ stop n k))
           → ((ts : List ConditionToken) (n k : ℕ) → infix_at bar part i ts ≡ stop n k → CutAt left (Infix i) ts n k) → CutAt left (Infix (suc i)) ts n k
       go (inl s) below_it = at_level left (Infix i) (Infix (suc i)) ts n k (in_tighter left i) (below_it ts n k s)
       go (inr d) below_it =
           let u = (infix_law left (deeper left) i).sound ts d.0 d.1 d.2 in
           let c : CutBehind left (Infix (suc i)) u.front d.1 n k =
-          loop_cut left (Infix (suc i)) (is_operator (suc i)) (operated bar part i (infix_at bar part i)) (operated_reads i) (operated_cut i below_it) (length d.1) d.0 u.front d.1 n k (is_tighter left i u.front d.0 u.is) d.3 in
+          loop_cut left (Infix (suc i)) (is_operator (suc i)) (operation_on bar part i (infix_at bar part i)) (operated_reads i) (operated_cut i below_it) (length d.1) d.0 u.front d.1 n k (is_tighter left i u.front d.0 u.is) d.3 in
           record { front = u.front ++ c.front; bad = c.bad; split = u.split ∙ ap (λ l. u.front ++ l) c.split ∙ sym (append_assoc u.front c.front c.bad); left_is = c.left_is; is = c.is }
 
   -- ---- `?:`
@@ -315,8 +315,8 @@ module _ (left : ℕ) (C : Cuts left) where
 
   -- ---- the comma
 
-  followed_cut : (a : Operand) (xs ts : List ConditionToken) (n k : ℕ) → IsExpression left Sequence xs a → at_next is_comma ts ≡ true → followed bar part a ts ≡ stop n k → CutBehind left Sequence xs ts n k
-  unfolding followed
+  followed_cut : (a : Operand) (xs ts : List ConditionToken) (n k : ℕ) → IsExpression left Sequence xs a → at_next is_comma ts ≡ true → comma_on bar part a ts ≡ stop n k → CutBehind left Sequence xs ts n k
+  unfolding comma_on
   followed_cut a xs ts n k is next h = go (bound_stop (taken 0 comma_of ts) (λ at us. and_then (renumbered (number_in_sequence at a) (conditional bar part us)) (λ b. pure (in_a_sequence at a b))) n k h)
     where
       go : (taken 0 comma_of ts ≡ stop n k) ⊎ ((at : ℕ) × (r : List ConditionToken) × (taken 0 comma_of ts ≡ done at r) × (and_then (renumbered (number_in_sequence at a) (conditional bar part r)) (λ b. pure (in_a_sequence at a b)) ≡ stop n k))
@@ -342,7 +342,7 @@ module _ (left : ℕ) (C : Cuts left) where
                     (in_sequence left d.0 opening.0 xs c.front a (fault_in w.0) opening.2 is c.is);
               }
 
-  followed_reads : (a b : Operand) (xs ts rest : List ConditionToken) → IsExpression left Sequence xs a → at_next is_comma ts ≡ true → followed bar part a ts ≡ done b rest
+  followed_reads : (a b : Operand) (xs ts rest : List ConditionToken) → IsExpression left Sequence xs a → at_next is_comma ts ≡ true → comma_on bar part a ts ≡ done b rest
       → (us : List ConditionToken) × (ts ≡ us ++ rest) × IsExpression left Sequence (xs ++ us) b
   followed_reads a b xs ts rest is next h =
       let u = (followed_head left (deeper left) a).sound ts b rest next h in
@@ -350,13 +350,13 @@ module _ (left : ℕ) (C : Cuts left) where
 
   sequence_cut : (ts : List ConditionToken) (n k : ℕ) → sequence bar part ts ≡ stop n k → CutAt left Sequence ts n k
   unfolding sequence
-  sequence_cut ts n k h = go (bound_stop (conditional bar part ts) (looped is_comma (followed bar part)) n k h)
+  sequence_cut ts n k h = go (bound_stop (conditional bar part ts) (looped is_comma (comma_on bar part)) n k h)
     where
-      go : (conditional bar part ts ≡ stop n k) ⊎ ((a : Operand) × (r : List ConditionToken) × (conditional bar part ts ≡ done a r) × (loop is_comma (followed bar part) (length r) a r ≡ stop n k)) → CutAt left Sequence ts n k
+      go : (conditional bar part ts ≡ stop n k) ⊎ ((a : Operand) × (r : List ConditionToken) × (conditional bar part ts ≡ done a r) × (loop is_comma (comma_on bar part) (length r) a r ≡ stop n k)) → CutAt left Sequence ts n k
       go (inl s) = at_level left Conditional Sequence ts n k (in_conditional left) (conditional_cut ts n k s)
       go (inr d) =
           let u = (conditional_law left (deeper left)).sound ts d.0 d.1 d.2 in
-          let c : CutBehind left Sequence u.front d.1 n k = loop_cut left Sequence is_comma (followed bar part) followed_reads followed_cut (length d.1) d.0 u.front d.1 n k (is_conditional left u.front d.0 u.is) d.3 in
+          let c : CutBehind left Sequence u.front d.1 n k = loop_cut left Sequence is_comma (comma_on bar part) followed_reads followed_cut (length d.1) d.0 u.front d.1 n k (is_conditional left u.front d.0 u.is) d.3 in
           record { front = u.front ++ c.front; bad = c.bad; split = u.split ∙ ap (λ l. u.front ++ l) c.split ∙ sym (append_assoc u.front c.front c.bad); left_is = c.left_is; is = c.is }
 
   entry_cut : (e : Entry) (ts : List ConditionToken) (n k : ℕ) → at_entry bar part e ts ≡ stop n k → CutAt left (level_of e) ts n k

@@ -7,7 +7,7 @@ use Rattle.sb_cond.specs.declared.arithmetic.Operand.{Operand}
 use Rattle.sb_cond.specs.declared.sign.ConditionToken.{ConditionToken}
 use Rattle.sb_cond.specs.Arithmetic.{fault_of}
 use Rattle.sb_cond.specs.Condition.{IsCondition, HasFault, whole, cut}
-use Rattle.sb_cond.specs.Front.{IsRefusedIn, begins, goes_wrong, refused_in, front_judged}
+use Rattle.sb_cond.specs.Front.{IsRefusedIn, begins, goes_wrong, refusal_in, front_judged}
 use Rattle.sb_cond.specs.Readers.{fault_in}
 use Rattle.sb_cond.proofs.Cutting.{CutAt, cut_off}
 use Rattle.sb_cond.proofs.Judging.{reader, reads, size}
@@ -26,7 +26,7 @@ same_front (x ∷ xs) (u ∷ us) ys vs e n =
 -- a front that can go on, or that a token follows with which it does not
 module _ (ts front bad : List ConditionToken) (fault : Option ℕ) (split : ts ≡ front ++ bad) (good : CanBegin IsCondition front)
     (first : (t : ConditionToken) (tail : List ConditionToken) → bad ≡ t ∷ tail → CanBegin IsCondition (front ++ (t ∷ [])) → ⊥) (has : HasFault front fault) where
-  by_rest : (rest : List ConditionToken) → bad ≡ rest → IsRefusedIn ts (refused_in fault (length ts) (length rest))
+  by_rest : (rest : List ConditionToken) → bad ≡ rest → IsRefusedIn ts (refusal_in fault (length ts) (length rest))
   by_rest [] none =
       let alone : front ≡ ts = sym (split ∙ ap (λ l. front ++ l) none ∙ append-nil front) in
       begins fault (subst (CanBegin IsCondition) alone good) (subst (λ l. HasFault l fault) alone has)
@@ -45,5 +45,5 @@ front_is ts (stop n left) e =
     let good = subst (CanBegin IsCondition) same.0 r.good in
     let first = λ (t : ConditionToken) (tail : List ConditionToken) (is : c.bad ≡ t ∷ tail) (begun : CanBegin IsCondition (c.front ++ (t ∷ []))).
     r.first t tail (same.1 ∙ is) (subst (λ xs. CanBegin IsCondition (xs ++ (t ∷ []))) (sym same.0) begun) in
-    subst (λ k. IsRefusedIn ts (refused_in (fault_in n) (length ts) k)) (sym c.left_is)
+    subst (λ k. IsRefusedIn ts (refusal_in (fault_in n) (length ts) k)) (sym c.left_is)
     (by_rest ts c.front c.bad (fault_in n) c.split good first (cut c.front (fault_in n) c.is) c.bad refl)

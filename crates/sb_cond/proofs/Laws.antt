@@ -15,7 +15,7 @@ use Rattle.sb_cond.specs.declared.expression.Entry.{Entry}
 use Rattle.sb_cond.specs.declared.expression.Entry.TheVariants as entry
 use Rattle.sb_cond.specs.Arithmetic.{binary, unary, selected, in_sequence, fault_of, fault_selected}
 use Rattle.sb_cond.specs.Expression.{operand_of, prefix_of, operator_of, is_open, is_close, is_question, is_colon, comma_of, Level, Primary, Infix, Conditional, Sequence, IsExpression, is_operand, is_grouped, is_primary, is_prefixed, is_tighter, is_binary, is_infix, is_selected, is_conditional, is_sequence}
-use Rattle.sb_cond.specs.Readers.{Reader, number_of, number_after, number_behind, number_first, number_second, number_in_sequence, telling, is_prefix, is_operator, is_comma, is_zero, grouped, primary, prefixed, operand, operated, infix_at, second_branch, branches, conditional, followed, sequence, at_entry, below}
+use Rattle.sb_cond.specs.Readers.{Reader, number_of, number_after, number_behind, number_first, number_second, number_in_sequence, telling, is_prefix, is_operator, is_comma, is_zero, group, primary, prefix_expression, operand, operation_on, infix_at, second_branch, branches, conditional, comma_on, sequence, at_entry, below}
 use Rattle.sb_cond.proofs.Signs.{goes_on, goes_on_conditional, goes_on_sequence, operand_not_open, operand_not_prefix, open_not_prefix, looser, question_ends, close_ends, colon_ends, comma_ends}
 use Rattle.sb_cond.proofs.Steps.{told, closed_by, perhaps_there, turned_once_more}
 
@@ -58,8 +58,8 @@ module _ (left : ℕ) (P : Deeper left) where
   abbrev GroupedText : List ConditionToken → Operand → Type 0
   GroupedText = Opened is_open (λ o. Closed is_close (IsExpression (less_one left) Sequence))
 
-  grouped_law : bar ≡ false → Lawful GroupedText (λ a. never) (grouped bar part)
-  unfolding grouped
+  grouped_law : bar ≡ false → Lawful GroupedText (λ a. never) (group bar part)
+  unfolding group
   grouped_law deep = opened 0 is_open (here sign.Open) refl (λ o passes. closed_by number_after is_close (here sign.Close) refl (P deep entry.Whole) (λ a t h. close_ends t h))
 
   abbrev PrimaryText : List ConditionToken → Operand → Type 0
@@ -88,8 +88,8 @@ module _ (left : ℕ) (P : Deeper left) where
   abbrev PrefixedText : ℕ → List ConditionToken → Operand → Type 0
   PrefixedText left = Begun prefix_of (λ op. Mapped (unary op) (IsExpression (less_one left) (Infix 0)))
 
-  prefixed_law : bar ≡ false → Lawful (PrefixedText left) (λ a. never) (prefixed bar part)
-  unfolding prefixed
+  prefixed_law : bar ≡ false → Lawful (PrefixedText left) (λ a. never) (prefix_expression bar part)
+  unfolding prefix_expression
   prefixed_law deep = begun 0 prefix_of (here sign.Not) prefix.Not refl (λ s op e. map_of (P deep entry.Operand) (unary op) (λ a. never) (λ a t. refl))
 
   to_operand : (left : ℕ) (ts : List ConditionToken) (a : Operand) → Either (Unbarred (is_zero left) (PrefixedText left)) (IsExpression left Primary) ts a → IsExpression left (Infix 0) ts a
@@ -142,8 +142,8 @@ module _ (left : ℕ) (P : Deeper left) where
         second = turned_once_more j.value a (binary at op a b) j.after (t ∷ ys) j.second (record { opening = t; value = (op, at); rest = ys; split = refl; gives_it = e; is = record { value = b; is = is_right; same = refl } });
       }
 
-  pub operated_head : (k : ℕ) → Lawful (IsExpression left (Infix k)) (λ a. goes_on k) (infix_at bar part k) → (a : Operand) → OnHead (is_operator (suc k)) (Turn k a) (λ b. goes_on k) (operated bar part k (infix_at bar part k) a)
-  unfolding operated
+  pub operated_head : (k : ℕ) → Lawful (IsExpression left (Infix k)) (λ a. goes_on k) (infix_at bar part k) → (a : Operand) → OnHead (is_operator (suc k)) (Turn k a) (λ b. goes_on k) (operation_on bar part k (infix_at bar part k) a)
+  unfolding operation_on
   operated_head k L a = at_head (is_operator (suc k)) (λ t h. with_operator t (operator_of (suc k) t) refl h) begun_heads
     where
       with_operator : (t : ConditionToken) (o : Option (Operator × ℕ)) → operator_of (suc k) t ≡ o → is_some o ≡ true
@@ -235,8 +235,8 @@ module _ (left : ℕ) (P : Deeper left) where
   abbrev pub Following : Operand → List ConditionToken → Operand → Type 0
   Following a = Begun comma_of (λ at. Mapped (in_sequence at a) (IsExpression left Conditional))
 
-  pub followed_head : (a : Operand) → OnHead is_comma (Following a) (λ b. goes_on_conditional) (followed bar part a)
-  unfolding followed
+  pub followed_head : (a : Operand) → OnHead is_comma (Following a) (λ b. goes_on_conditional) (comma_on bar part a)
+  unfolding comma_on
   followed_head a =
       headed (begun 0 comma_of (here sign.Comma) 0 refl (λ s at e. map_of (told (number_in_sequence at a) conditional_law) (in_sequence at a) (λ b. goes_on_conditional) (λ b t. refl))) is_comma begun_heads
 

@@ -3,7 +3,7 @@ use Rattle.std.proofs.Common.{◌≡◌, ◌+◌, ◌-◌, ◌<◌, ◌≤◌, �
 use Rattle.sb_parse.specs.Parser.{Parser, done, stop, at_next, and_then, looped, loop}
 use Rattle.sb_cond.specs.declared.expression.Entry.{Entry}
 use Rattle.sb_cond.specs.declared.sign.ConditionToken.{ConditionToken}
-use Rattle.sb_cond.specs.Readers.{Reader, is_zero, is_operator, operand, operated, infix_at, at_entry, below}
+use Rattle.sb_cond.specs.Readers.{Reader, is_zero, is_operator, operand, operation_on, infix_at, at_entry, below}
 
 module _ {T A : Type 0} (goes : T → Bool) (op : A → Parser T A) where
   off : (n : ℕ) (a : A) (ts : List T) → at_next goes ts ≡ false → loop goes op n a ts ≡ done a ts
@@ -47,9 +47,9 @@ unfolding infix_at
 no_infix bar part rank ts none = ap (λ k. infix_at bar part k ts) none
 
 pub some_infix : (bar : Bool) (part : Entry → Reader) (rank : ℕ) (ts : List ConditionToken) → (rank ≡ 0 → ⊥)
-    → infix_at bar part rank ts ≡ and_then (infix_at bar part (rank - 1) ts) (looped (is_operator (rank - 1 + 1)) (operated bar part (rank - 1) (infix_at bar part (rank - 1))))
+    → infix_at bar part rank ts ≡ and_then (infix_at bar part (rank - 1) ts) (looped (is_operator (rank - 1 + 1)) (operation_on bar part (rank - 1) (infix_at bar part (rank - 1))))
 unfolding infix_at
 some_infix bar part zero ts some = absurd (some refl)
 some_infix bar part (suc k) ts some =
-    subst (λ n. infix_at bar part (suc k) ts ≡ and_then (infix_at bar part n ts) (looped (is_operator (n + 1)) (operated bar part n (infix_at bar part n)))) (let less : k ≡ suc k - 1 = omega arith in less)
-    (ap (λ m. and_then (infix_at bar part k ts) (looped (is_operator m) (operated bar part k (infix_at bar part k)))) (let more : suc k ≡ k + 1 = omega arith in more))
+    subst (λ n. infix_at bar part (suc k) ts ≡ and_then (infix_at bar part n ts) (looped (is_operator (n + 1)) (operation_on bar part n (infix_at bar part n)))) (let less : k ≡ suc k - 1 = omega arith in less)
+    (ap (λ m. and_then (infix_at bar part k ts) (looped (is_operator m) (operation_on bar part k (infix_at bar part k)))) (let more : suc k ≡ k + 1 = omega arith in more))

@@ -28,33 +28,33 @@ abbrev pub remainder : Bool → ℕ → ℕ → ℕ
 remainder true x y = x % y
 remainder false x y = cast_unsigned w64 (int_rem (cast_signed w64 x) (cast_signed w64 y))
 
-abbrev pub shifted_right : Bool → ℕ → ℕ → ℕ
-shifted_right true x y = x / 2 ^ y
-shifted_right false x y = cast_unsigned w64 (int_shr (cast_signed w64 x) y)
+abbrev pub shift_right : Bool → ℕ → ℕ → ℕ
+shift_right true x y = x / 2 ^ y
+shift_right false x y = cast_unsigned w64 (int_shr (cast_signed w64 x) y)
 
 abbrev pub given_if : Bool → ℕ → Option ℕ
 given_if there n = if there then Some n else None
 
 -- The value of an operator. A divisor of 0 gives none, nor does a count that is negative or 64 or more, which is 64 or more without its sign.
-abbrev pub computed : Bool → Operator → ℕ → ℕ → Option ℕ
-computed unsigned operator.Or x y = Some (truth (is_true x || is_true y))
-computed unsigned operator.And x y = Some (truth (is_true x && is_true y))
-computed unsigned operator.BitOr x y = Some (bit_or x y)
-computed unsigned operator.BitXor x y = Some (bit_xor x y)
-computed unsigned operator.BitAnd x y = Some (bit_and x y)
-computed unsigned operator.Equal x y = Some (truth (nat_eq x y))
-computed unsigned operator.NotEqual x y = Some (truth (not (nat_eq x y)))
-computed unsigned operator.Less x y = Some (truth (is_below unsigned x y))
-computed unsigned operator.Greater x y = Some (truth (is_below unsigned y x))
-computed unsigned operator.AtMost x y = Some (truth (not (is_below unsigned y x)))
-computed unsigned operator.AtLeast x y = Some (truth (not (is_below unsigned x y)))
-computed unsigned operator.ShiftLeft x y = given_if (nat_lt y 64) ((x * 2 ^ y) % 2 ^ 64)
-computed unsigned operator.ShiftRight x y = given_if (nat_lt y 64) (shifted_right unsigned x y)
-computed unsigned operator.Add x y = Some ((x + y) % 2 ^ 64)
-computed unsigned operator.Subtract x y = Some ((x + (2 ^ 64 - y)) % 2 ^ 64)
-computed unsigned operator.Multiply x y = Some ((x * y) % 2 ^ 64)
-computed unsigned operator.Divide x y = given_if (not (nat_eq y 0)) (quotient unsigned x y)
-computed unsigned operator.Remainder x y = given_if (not (nat_eq y 0)) (remainder unsigned x y)
+abbrev pub binary_value : Bool → Operator → ℕ → ℕ → Option ℕ
+binary_value unsigned operator.Or x y = Some (truth (is_true x || is_true y))
+binary_value unsigned operator.And x y = Some (truth (is_true x && is_true y))
+binary_value unsigned operator.BitOr x y = Some (bit_or x y)
+binary_value unsigned operator.BitXor x y = Some (bit_xor x y)
+binary_value unsigned operator.BitAnd x y = Some (bit_and x y)
+binary_value unsigned operator.Equal x y = Some (truth (nat_eq x y))
+binary_value unsigned operator.NotEqual x y = Some (truth (not (nat_eq x y)))
+binary_value unsigned operator.Less x y = Some (truth (is_below unsigned x y))
+binary_value unsigned operator.Greater x y = Some (truth (is_below unsigned y x))
+binary_value unsigned operator.AtMost x y = Some (truth (not (is_below unsigned y x)))
+binary_value unsigned operator.AtLeast x y = Some (truth (not (is_below unsigned x y)))
+binary_value unsigned operator.ShiftLeft x y = given_if (nat_lt y 64) ((x * 2 ^ y) % 2 ^ 64)
+binary_value unsigned operator.ShiftRight x y = given_if (nat_lt y 64) (shift_right unsigned x y)
+binary_value unsigned operator.Add x y = Some ((x + y) % 2 ^ 64)
+binary_value unsigned operator.Subtract x y = Some ((x + (2 ^ 64 - y)) % 2 ^ 64)
+binary_value unsigned operator.Multiply x y = Some ((x * y) % 2 ^ 64)
+binary_value unsigned operator.Divide x y = given_if (not (nat_eq y 0)) (quotient unsigned x y)
+binary_value unsigned operator.Remainder x y = given_if (not (nat_eq y 0)) (remainder unsigned x y)
 
 -- ---- operands, with what has no value
 
@@ -92,7 +92,7 @@ or_none at (Some n) = Ok n
 
 abbrev pub with_right : ℕ → Bool → Operator → ℕ → Result ℕ ℕ → Result ℕ ℕ
 with_right at unsigned op x (Err other) = Err other
-with_right at unsigned op x (Ok y) = or_none at (computed unsigned op x y)
+with_right at unsigned op x (Ok y) = or_none at (binary_value unsigned op x y)
 
 abbrev pub with_left : ℕ → Bool → Operator → Result ℕ ℕ → Result ℕ ℕ → Result ℕ ℕ
 with_left at unsigned op (Err other) y = Err other
@@ -102,15 +102,15 @@ with_left at unsigned op (Ok x) y = if decides op x then Ok (truth (is_true x)) 
 abbrev pub binary : ℕ → Operator → Operand → Operand → Operand
 binary at op a b = record { unsigned = not (is_test op) && common_type op a b; value = with_left at (common_type op a b) op a.value b.value }
 
-abbrev pub changed : Prefix → ℕ → ℕ
-changed prefix.Plus x = x
-changed prefix.Minus x = (0 + (2 ^ 64 - x)) % 2 ^ 64
-changed prefix.Complement x = bit_not w64 x
-changed prefix.Not x = truth (nat_eq x 0)
+abbrev pub unary_value : Prefix → ℕ → ℕ
+unary_value prefix.Plus x = x
+unary_value prefix.Minus x = (0 + (2 ^ 64 - x)) % 2 ^ 64
+unary_value prefix.Complement x = bit_not w64 x
+unary_value prefix.Not x = truth (nat_eq x 0)
 
 abbrev pub changed_value : Prefix → Result ℕ ℕ → Result ℕ ℕ
 changed_value op (Err at) = Err at
-changed_value op (Ok x) = Ok (changed op x)
+changed_value op (Ok x) = Ok (unary_value op x)
 
 abbrev pub is_not : Prefix → Bool
 is_not prefix.Not = true

@@ -28,10 +28,10 @@ pub record FrontRefused (texts : List (List ℕ)) (line : List PpToken) (end : P
 
 -- ---- by what the reader gives
 
-abbrev pub refused_in : Option ℕ → ℕ → ℕ → Option ℕ
-refused_in fault count zero = fault
-refused_in fault count (suc left) = Some (unwrap_or fault (count - suc left))
+abbrev pub refusal_in : Option ℕ → ℕ → ℕ → Option ℕ
+refusal_in fault count zero = fault
+refusal_in fault count (suc left) = Some (unwrap_or fault (count - suc left))
 
 abbrev pub front_judged : ℕ → Outcome ConditionToken Operand → Option ℕ
-front_judged count (done a rest) = refused_in (fault_of a.value) count (length rest)
-front_judged count (stop n left) = refused_in (fault_in n) count left
+front_judged count (done a rest) = refusal_in (fault_of a.value) count (length rest)
+front_judged count (stop n left) = refusal_in (fault_in n) count left

@@ -60,25 +60,25 @@ number_in_sequence at a n = number_of (fault_of (none_at at a.value))
 
 -- `bar`: no deeper level is left; `part`: the readers one level deeper
 module _ (bar : Bool) (part : Entry → Reader) where
-  unfoldable pub grouped : Reader
-  grouped = expect 0 is_open (λ o. part entry.Whole >>= (λ a. token (number_after a) is_close >>= (λ c. pure a)))
+  unfoldable pub group : Reader
+  group = expect 0 is_open (λ o. part entry.Whole >>= (λ a. token (number_after a) is_close >>= (λ c. pure a)))
 
   unfoldable pub primary : Reader
-  primary = choose is_open (guard bar 0 grouped) (taken 0 operand_of)
+  primary = choose is_open (guard bar 0 group) (taken 0 operand_of)
 
-  unfoldable pub prefixed : Reader
-  prefixed = taken 0 prefix_of >>= (λ op. part entry.Operand >>= (λ a. pure (unary op a)))
+  unfoldable pub prefix_expression : Reader
+  prefix_expression = taken 0 prefix_of >>= (λ op. part entry.Operand >>= (λ a. pure (unary op a)))
 
   unfoldable pub operand : Reader
-  operand = choose is_prefix (guard bar 0 prefixed) primary
+  operand = choose is_prefix (guard bar 0 prefix_expression) primary
 
   -- an operator and its right operand
-  unfoldable pub operated : ℕ → Reader → Operand → Reader
-  operated k right a = taken 0 (operator_of (suc k)) >>= (λ op. telling (number_behind op.0 a) right >>= (λ b. pure (binary op.1 op.0 a b)))
+  unfoldable pub operation_on : ℕ → Reader → Operand → Reader
+  operation_on k right a = taken 0 (operator_of (suc k)) >>= (λ op. telling (number_behind op.0 a) right >>= (λ b. pure (binary op.1 op.0 a b)))
 
   unfoldable pub infix_at : ℕ → Reader
   infix_at zero = operand
-  infix_at (suc k) = infix_at k >>= looped (is_operator (suc k)) (operated k (infix_at k))
+  infix_at (suc k) = infix_at k >>= looped (is_operator (suc k)) (operation_on k (infix_at k))
 
   -- the colon and the second branch
   unfoldable pub second_branch : Operand → Operand → Reader
@@ -91,11 +91,11 @@ module _ (bar : Bool) (part : Entry → Reader) where
   conditional = infix_at 10 >>= (λ a. choose is_question (guard bar (number_after a) (branches a)) (pure a))
 
   -- a comma and what follows it
-  unfoldable pub followed : Operand → Reader
-  followed a = taken 0 comma_of >>= (λ at. telling (number_in_sequence at a) conditional >>= (λ b. pure (in_sequence at a b)))
+  unfoldable pub comma_on : Operand → Reader
+  comma_on a = taken 0 comma_of >>= (λ at. telling (number_in_sequence at a) conditional >>= (λ b. pure (in_sequence at a b)))
 
   unfoldable pub sequence : Reader
-  sequence = conditional >>= looped is_comma followed
+  sequence = conditional >>= looped is_comma comma_on
 
   abbrev pub at_entry : Entry → Reader
   at_entry entry.Operand = operand

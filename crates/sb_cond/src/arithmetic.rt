@@ -4,7 +4,7 @@ ghost use Rattle.std.specs.Prelude.{◌≡◌, ◌<◌, Option, Some, None};
 ghost use Rattle.sb_cond.specs.Arithmetic as spec;
 
 /// An operator between two operands.
-#[derive(Clone, Copy, Debug, PartialEq, Eq)]
+#[derive(Clone, Copy, PartialEq, Eq)]
 pub enum Operator {
     Or,
     And,
@@ -27,7 +27,7 @@ pub enum Operator {
 }
 
 /// An operator before its operand.
-#[derive(Clone, Copy, Debug, PartialEq, Eq)]
+#[derive(Clone, Copy, PartialEq, Eq)]
 pub enum Prefix {
     Plus,
     Minus,
@@ -37,7 +37,7 @@ pub enum Prefix {
 
 /// What an expression comes to: its type, `unsigned long long` or `long long`, and its value of 64 bits in two's
 /// complement, or the position in the line of the operator that has none.
-#[derive(Clone, Copy, Debug, PartialEq, Eq)]
+#[derive(Clone, Copy, PartialEq, Eq)]
 pub struct Operand {
     pub unsigned: bool,
     pub value: Result<u64, u32>,
@@ -87,9 +87,9 @@ fn remainder(unsigned: bool, x: u64, y: u64) -> u64
 }
 
 /// A shift to the right, which keeps the sign of a signed number.
-fn shifted_right(unsigned: bool, x: u64, y: u64) -> u64
+fn shift_right(unsigned: bool, x: u64, y: u64) -> u64
     requires count { y < 64 }
-    ensures shifted { result ≡ spec.shifted_right unsigned x y }
+    ensures shifted { result ≡ spec.shift_right unsigned x y }
 {
     if unsigned {
         x >> y
@@ -99,8 +99,8 @@ fn shifted_right(unsigned: bool, x: u64, y: u64) -> u64
 }
 
 /// The value of an operator whose operands have the values `x` and `y`, computed in one type; None where it has none.
-fn computed(unsigned: bool, operator: Operator, x: u64, y: u64) -> Option<u64>
-    ensures value { result ≡ spec.computed unsigned operator x y }
+fn binary_value(unsigned: bool, operator: Operator, x: u64, y: u64) -> Option<u64>
+    ensures value { result ≡ spec.binary_value unsigned operator x y }
 {
     match operator {
         Operator::Or => Some(truth(x != 0 || y != 0)),
@@ -115,7 +115,7 @@ fn computed(unsigned: bool, operator: Operator, x: u64, y: u64) -> Option<u64>
         Operator::AtMost => Some(truth(!is_below(unsigned, y, x))),
         Operator::AtLeast => Some(truth(!is_below(unsigned, x, y))),
         Operator::ShiftLeft if y < 64 => Some(x << y),
-        Operator::ShiftRight if y < 64 => Some(shifted_right(unsigned, x, y)),
+        Operator::ShiftRight if y < 64 => Some(shift_right(unsigned, x, y)),
         Operator::Add => Some(x.wrapping_add(y)),
         Operator::Subtract => Some(x.wrapping_sub(y)),
         Operator::Multiply => Some(x.wrapping_mul(y)),
@@ -171,7 +171,7 @@ fn with_right(
     ensures value { result ≡ spec.with_right at unsigned operator x y }
 {
     match y {
-        Ok(y) => computed(unsigned, operator, x, y).ok_or(at),
+        Ok(y) => binary_value(unsigned, operator, x, y).ok_or(at),
         Err(other) => Err(other),
     }
 }
@@ -192,8 +192,8 @@ pub(crate) fn binary(at: u32, operator: Operator, a: Operand, b: Operand) -> Ope
     }
 }
 
-fn changed(prefix: Prefix, x: u64) -> u64
-    ensures value { result ≡ spec.changed prefix x }
+fn unary_value(prefix: Prefix, x: u64) -> u64
+    ensures value { result ≡ spec.unary_value prefix x }
 {
     match prefix {
         Prefix::Plus => x,
@@ -209,7 +209,7 @@ pub(crate) fn unary(prefix: Prefix, a: Operand) -> Operand
 {
     Operand {
         unsigned: prefix != Prefix::Not && a.unsigned,
-        value: a.value.map(|x| changed(prefix, x)),
+        value: a.value.map(|x| unary_value(prefix, x)),
     }
 }
 

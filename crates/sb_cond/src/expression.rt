@@ -14,7 +14,7 @@ use crate::reading::{
 use crate::sign::{ConditionToken, Mark};
 
 /// Where an expression stands one level deeper.
-#[derive(Clone, Copy, Debug, PartialEq, Eq)]
+#[derive(Clone, Copy, PartialEq, Eq)]
 pub enum Entry {
     /// Behind an operator that stands before its operand.
     Operand,
@@ -42,11 +42,11 @@ fn part<'a>(
 }
 
 #[cycle(expression)]
-#[tactic(auto, unfolding(crate::specs::Readers::grouped))]
-fn grouped<'a>(tokens: &'a [ConditionToken], left: u32) -> Result<Read<'a, Operand>, Stopped>
+#[tactic(auto, unfolding(crate::specs::Readers::group))]
+fn group<'a>(tokens: &'a [ConditionToken], left: u32) -> Result<Read<'a, Operand>, Stopped>
     requires some { 0 < left }
     requires shallow { left ≤ 200 }
-    ensures read { Reads (spec.grouped (spec.is_zero left) (spec.below left) tokens.now) result }
+    ensures read { Reads (spec.group (spec.is_zero left) (spec.below left) tokens.now) result }
 {
     let open = take_mark(Mark::Open, None, tokens)?;
     let inner = part(open.rest, Entry::Whole, left)?;
@@ -72,15 +72,18 @@ fn primary<'a>(tokens: &'a [ConditionToken], left: u32) -> Result<Read<'a, Opera
             left: tokens.len(),
         });
     }
-    grouped(tokens, left)
+    group(tokens, left)
 }
 
 #[cycle(expression)]
-#[tactic(auto, unfolding(crate::specs::Readers::prefixed))]
-fn prefixed<'a>(tokens: &'a [ConditionToken], left: u32) -> Result<Read<'a, Operand>, Stopped>
+#[tactic(auto, unfolding(crate::specs::Readers::prefix_expression))]
+fn prefix_expression<'a>(
+    tokens: &'a [ConditionToken],
+    left: u32,
+) -> Result<Read<'a, Operand>, Stopped>
     requires some { 0 < left }
     requires shallow { left ≤ 200 }
-    ensures read { Reads (spec.prefixed (spec.is_zero left) (spec.below left) tokens.now) result }
+    ensures read { Reads (spec.prefix_expression (spec.is_zero left) (spec.below left) tokens.now) result }
 {
     let prefix = take_prefix(tokens)?;
     let inner = part(prefix.rest, Entry::Operand, left)?;
@@ -105,20 +108,20 @@ fn operand<'a>(tokens: &'a [ConditionToken], left: u32) -> Result<Read<'a, Opera
             left: tokens.len(),
         });
     }
-    prefixed(tokens, left)
+    prefix_expression(tokens, left)
 }
 
 /// An operator one rank looser than `tighter`, and its right operand.
 #[cycle(expression)]
-#[tactic(auto, unfolding(crate::specs::Readers::operated))]
-fn operated<'a>(
+#[tactic(auto, unfolding(crate::specs::Readers::operation_on))]
+fn operation_on<'a>(
     first: Read<'a, Operand>,
     tighter: u8,
     left: u32,
 ) -> Result<Read<'a, Operand>, Stopped>
     requires rank { tighter < 10 }
     requires shallow { left ≤ 200 }
-    ensures read { Reads (spec.operated (spec.is_zero left) (spec.below left) tighter (spec.infix_at (spec.is_zero left) (spec.below left) tighter) first.entry.value first.entry.rest.now) result }
+    ensures read { Reads (spec.operation_on (spec.is_zero left) (spec.below left) tighter (spec.infix_at (spec.is_zero left) (spec.below left) tighter) first.entry.value first.entry.rest.now) result }
 {
     let operator = take_operator(tighter + 1, first.rest)?;
     match infix(operator.rest, tighter, left) {
@@ -144,14 +147,14 @@ fn operators<'a>(
 ) -> Result<Read<'a, Operand>, Stopped>
     requires rank { tighter < 10 }
     requires shallow { left ≤ 200 }
-    ensures read { Reads (looped (spec.is_operator (tighter + 1)) (spec.operated (spec.is_zero left) (spec.below left) tighter (spec.infix_at (spec.is_zero left) (spec.below left) tighter)) first.entry.value first.entry.rest.now) result }
+    ensures read { Reads (looped (spec.is_operator (tighter + 1)) (spec.operation_on (spec.is_zero left) (spec.below left) tighter (spec.infix_at (spec.is_zero left) (spec.below left) tighter)) first.entry.value first.entry.rest.now) result }
 {
     let mut found = first;
     for _turn in 0..first.rest.len() {
         if !is_operator_next(tighter + 1, found.rest) {
             return Ok(found);
         }
-        found = operated(found, tighter, left)?;
+        found = operation_on(found, tighter, left)?;
     }
     Ok(found)
 }
@@ -232,10 +235,10 @@ fn conditional<'a>(tokens: &'a [ConditionToken], left: u32) -> Result<Read<'a, O
 
 /// A comma and what follows it.
 #[cycle(expression)]
-#[tactic(auto, unfolding(crate::specs::Readers::followed))]
-fn followed<'a>(first: Read<'a, Operand>, left: u32) -> Result<Read<'a, Operand>, Stopped>
+#[tactic(auto, unfolding(crate::specs::Readers::comma_on))]
+fn comma_on<'a>(first: Read<'a, Operand>, left: u32) -> Result<Read<'a, Operand>, Stopped>
     requires shallow { left ≤ 200 }
-    ensures read { Reads (spec.followed (spec.is_zero left) (spec.below left) first.entry.value first.entry.rest.now) result }
+    ensures read { Reads (spec.comma_on (spec.is_zero left) (spec.below left) first.entry.value first.entry.rest.now) result }
 {
     let comma = take_comma(first.rest)?;
     match conditional(comma.rest, left) {
@@ -251,14 +254,14 @@ fn followed<'a>(first: Read<'a, Operand>, left: u32) -> Result<Read<'a, Operand>
 #[cycle(expression)]
 fn commas<'a>(first: Read<'a, Operand>, left: u32) -> Result<Read<'a, Operand>, Stopped>
     requires shallow { left ≤ 200 }
-    ensures read { Reads (looped spec.is_comma (spec.followed (spec.is_zero left) (spec.below left)) first.entry.value first.entry.rest.now) result }
+    ensures read { Reads (looped spec.is_comma (spec.comma_on (spec.is_zero left) (spec.below left)) first.entry.value first.entry.rest.now) result }
 {
     let mut found = first;
     for _turn in 0..first.rest.len() {
         if !is_comma_next(found.rest) {
             return Ok(found);
         }
-        found = followed(found, left)?;
+        found = comma_on(found, left)?;
     }
     Ok(found)
 }

@@ -5,20 +5,20 @@ ghost use Rattle.sb_cond.specs.Front as spec;
 
 use crate::arithmetic::fault_of;
 use crate::expression::sequence;
-use crate::line::{place_in, refused_at, tokens_of};
+use crate::line::{place_in, refusal_at, tokens_of};
 use crate::sign::ConditionToken;
 use sb_base::{Names, Place};
 use sb_lex::PpToken;
 use std::alloc::{AllocError, Global};
 
 /// The position at which a front is refused, where so many tokens are left of it.
-fn refused_in(fault: Option<u32>, count: usize, left: usize) -> Option<usize>
-    ensures at { result ≡ spec.refused_in fault count left }
+fn refusal_in(fault: Option<u32>, count: usize, left: usize) -> Option<usize>
+    ensures at { result ≡ spec.refusal_in fault count left }
 {
     if left == 0 {
         fault.map(|at| at as usize)
     } else {
-        Some(refused_at(fault, count, left))
+        Some(refusal_at(fault, count, left))
     }
 }
 
@@ -27,8 +27,8 @@ fn judge_front(tokens: &[ConditionToken]) -> Option<usize>
     ensures refused { spec.IsRefusedIn tokens.now result }
 {
     match sequence(tokens, 200) {
-        Ok(read) => refused_in(fault_of(read.value), tokens.len(), read.rest.len()),
-        Err(stop) => refused_in(stop.fault, tokens.len(), stop.left),
+        Ok(read) => refusal_in(fault_of(read.value), tokens.len(), read.rest.len()),
+        Err(stop) => refusal_in(stop.fault, tokens.len(), stop.left),
     }
 }
 
@@ -51,37 +51,5 @@ pub fn front_refusal(
     match judge_front(tokens.as_slice()) {
         Some(at) => Ok(Some(place_in(front, end, at))),
         None => Ok(None),
-    }
-}
-
-#[cfg(test)]
-mod tests {
-    use super::*;
-    use crate::line::made::pieces;
-    use std::test::Fail;
-
-    #[test]
-    fn judges_fronts(rt: HostRuntime) -> Result<(), Fail> {
-        for (text, want) in [
-            ("1", None),
-            ("( 1 +", None),
-            ("0 && 1 / 0 ||", None),
-            ("1 2", Some(1)),
-            (")", Some(0)),
-            ("1 / 0 +", Some(1)),
-            ("1 / 0 2", Some(1)),
-        ] {
-            let mut names = Names::new(rt.alloc(), 1000);
-            let front = pieces(rt.alloc(), &mut names, text)?;
-            assert!(rt; front.len() < 1000);
-            let end = Place {
-                file: 0,
-                line: 1,
-                col: 99,
-            };
-            let found = front_refusal(rt.alloc(), &names, front.as_slice(), end)?;
-            assert_eq!(rt; found.map(|place| place.col), want, "at {text}");
-        }
-        Ok(())
     }
 }

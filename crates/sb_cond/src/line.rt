@@ -15,7 +15,7 @@ use std::alloc::{AllocError, Global};
 
 /// The position at which a line is refused: that of an operator without a value, or else that of the token at which
 /// no expression goes on so, behind the last one where all are read.
-pub(crate) fn refused_at(fault: Option<u32>, count: usize, left: usize) -> usize
+pub(crate) fn refusal_at(fault: Option<u32>, count: usize, left: usize) -> usize
     ensures at { result ≡ unwrap_or fault (count - left) }
 {
     match fault {
@@ -30,7 +30,7 @@ fn truth_of(read: Read<Operand>, count: usize) -> Result<bool, usize>
     match read.value.value {
         Err(at) => Err(at as usize),
         Ok(value) if read.rest.is_empty() => Ok(value != 0),
-        Ok(_) => Err(refused_at(None, count, read.rest.len())),
+        Ok(_) => Err(refusal_at(None, count, read.rest.len())),
     }
 }
 
@@ -42,7 +42,7 @@ fn judge(tokens: &[ConditionToken]) -> Result<bool, usize>
 {
     match sequence(tokens, 200) {
         Ok(read) => truth_of(read, tokens.len()),
-        Err(stop) => Err(refused_at(stop.fault, tokens.len(), stop.left)),
+        Err(stop) => Err(refusal_at(stop.fault, tokens.len(), stop.left)),
     }
 }
 
@@ -188,158 +188,5 @@ pub(crate) fn place_in(line: &[PpToken], end: Place, at: usize) -> Place
     match line.get(at) {
         Some(piece) => piece.place,
         None => end,
-    }
-}
-
-#[cfg(test)]
-pub(crate) mod made {
-    use super::*;
-    use sb_base::{Name, NamesFault};
-
-    fn kind_of(text: &str) -> PpKind {
-        match text.as_bytes().first() {
-            Some(b'0'..=b'9') => PpKind::Number,
-            Some(b'a'..=b'z') => PpKind::Word,
-            Some(b'\'') => PpKind::Char,
-            Some(b'"') => PpKind::Text,
-            _ => PpKind::Punct,
-        }
-    }
-
-    /// The words of a text as pieces, each at the column of its position.
-    pub(crate) fn pieces(
-        alloc: Global,
-        names: &mut Names,
-        text: &str,
-    ) -> Result<Vec<PpToken>, NamesFault> {
-        let mut line = Vec::new(alloc);
-        let mut col = 0;
-        for word in text.split(' ') {
-            let name = names.intern(alloc, word.as_bytes())?;
-            line.push(piece(kind_of(word), name, col))?;
-            col = next(col);
-        }
-        Ok(line)
-    }
-
-    fn next(col: u32) -> u32 {
-        if col < u32::MAX { col + 1 } else { col }
-    }
-
-    fn piece(kind: PpKind, text: Name, col: u32) -> PpToken {
-        PpToken {
-            kind,
-            text,
-            place: Place {
-                file: 0,
-                line: 1,
-                col,
-            },
-            first: false,
-            spaced: true,
-        }
-    }
-}
-
-#[cfg(test)]
-mod tests {
-    use super::made::pieces;
-    use super::*;
-    use std::test::Fail;
-
-    fn refused(col: u32) -> Result<bool, Stop> {
-        Err(Stop::Refused(Refusal {
-            number: 26,
-            place: Place {
-                file: 0,
-                line: 1,
-                col,
-            },
-            feature: 0,
-        }))
-    }
-
-    #[test]
-    fn judges_lines(rt: HostRuntime) -> Result<(), Fail> {
-        let end = Place {
-            file: 0,
-            line: 1,
-            col: 99,
-        };
-        for (text, want) in [
-            ("1", Ok(true)),
-            ("name", Ok(false)),
-            ("1 + 2 * 3 == 7", Ok(true)),
-            ("- 1 < 0", Ok(true)),
-            ("- 1 < 0u", Ok(false)),
-            ("- 1 > 9223372036854775808", Ok(true)),
-            ("- 1 >> 63 == - 1", Ok(true)),
-            ("'a' == 97 && ! 0", Ok(true)),
-            ("0 && 1 / 0", Ok(false)),
-            ("1 || 1 << 64", Ok(true)),
-            ("1 ? 2 : 1 % 0", Ok(true)),
-            ("0 ? 1 , 2 : 0", Ok(false)),
-            ("0 ? 1 : 0 ? 1 : 2", Ok(true)),
-            ("( 1 ? - 1 : 0u ) > 0", Ok(true)),
-            ("1 / 0", refused(1)),
-            ("1 / 0 )", refused(1)),
-            ("0 && 1 / 0 )", refused(5)),
-            ("1 << - 1", refused(1)),
-            ("1 , 2", refused(1)),
-            ("1 +", refused(99)),
-            ("( 1", refused(99)),
-            ("1 / 0 +", refused(1)),
-            ("1 2", refused(1)),
-            ("1 = 2", refused(1)),
-            ("\"a\"", refused(0)),
-            ("1.5", refused(0)),
-        ] {
-            let mut names = Names::new(rt.alloc(), 1000);
-            let line = pieces(rt.alloc(), &mut names, text)?;
-            assert!(rt; line.len() < 1000);
-            assert_eq!(rt;
-                condition(rt.alloc(), &names, line.as_slice(), end),
-                want,
-                "at {text}"
-            );
-        }
-        Ok(())
-    }
-
-    #[test]
-    fn refuses_an_empty_line_at_its_end(rt: HostRuntime) -> Result<(), Fail> {
-        let names = Names::new(rt.alloc(), 0);
-        let end = Place {
-            file: 0,
-            line: 1,
-            col: 3,
-        };
-        assert_eq!(rt; condition(rt.alloc(), &names, &[], end), refused(3));
-        Ok(())
-    }
-
-    #[test]
-    fn refuses_the_level_after_the_last(rt: HostRuntime) -> Result<(), Fail> {
-        let mut text = String::new(rt.alloc());
-        for _level in 0..200 {
-            text.push_str("( ")?;
-        }
-        let end = Place {
-            file: 0,
-            line: 1,
-            col: 999,
-        };
-        for (tail, col) in [("1", 999), ("( 1", 200), ("~ 1", 200), ("1 ? 2 : 3", 201)] {
-            let mut names = Names::new(rt.alloc(), 1000);
-            let whole = format!(in rt.alloc(); "{text}{tail}")?;
-            let line = pieces(rt.alloc(), &mut names, whole.as_str())?;
-            assert!(rt; line.len() < 1000);
-            assert_eq!(rt;
-                condition(rt.alloc(), &names, line.as_slice(), end),
-                refused(col),
-                "at {tail}"
-            );
-        }
-        Ok(())
     }
 }

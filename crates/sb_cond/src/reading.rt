@@ -13,7 +13,7 @@ use crate::arithmetic::{
 use crate::sign::{ConditionToken, Mark, Sign};
 
 /// What was read, and the tokens after it.
-#[derive(Clone, Copy, Debug)]
+#[derive(Clone, Copy)]
 pub struct Read<'a, T> {
     pub value: T,
     pub rest: &'a [ConditionToken],
@@ -22,7 +22,7 @@ pub struct Read<'a, T> {
 /// Why a line was not read: no expression goes on so from where this many tokens are left, 0 at the end.
 ///
 /// `fault` is the position of the first operator before that place that is evaluated and has no value.
-#[derive(Clone, Copy, Debug)]
+#[derive(Clone, Copy)]
 pub struct Stopped {
     pub fault: Option<u32>,
     pub left: usize,
@@ -185,7 +185,7 @@ pub(crate) fn is_comma_next(tokens: &[ConditionToken]) -> bool
 }
 
 /// The value of the token before `rest`, which has to have one.
-fn valued<'a, T>(value: Option<T>, rest: &'a [ConditionToken]) -> Result<Read<'a, T>, Stopped>
+fn read_value<'a, T>(value: Option<T>, rest: &'a [ConditionToken]) -> Result<Read<'a, T>, Stopped>
     ensures read { Reads (taken_as 0 value rest.now) result }
 {
     match value {
@@ -201,7 +201,7 @@ pub(crate) fn take_operand<'a>(tokens: &'a [ConditionToken]) -> Result<Read<'a, 
     ensures read { Reads (taken 0 spec.operand_of tokens.now) result }
 {
     match tokens.split_first() {
-        Some((token, rest)) => valued(operand_at(*token), rest),
+        Some((token, rest)) => read_value(operand_at(*token), rest),
         None => Err(Stopped {
             fault: None,
             left: 0,
@@ -213,7 +213,7 @@ pub(crate) fn take_prefix<'a>(tokens: &'a [ConditionToken]) -> Result<Read<'a, P
     ensures read { Reads (taken 0 spec.prefix_of tokens.now) result }
 {
     match tokens.split_first() {
-        Some((token, rest)) => valued(prefix_at(*token), rest),
+        Some((token, rest)) => read_value(prefix_at(*token), rest),
         None => Err(Stopped {
             fault: None,
             left: 0,
@@ -228,7 +228,7 @@ pub(crate) fn take_operator<'a>(
     ensures read { Reads (taken 0 (spec.operator_of of_rank) tokens.now) result }
 {
     match tokens.split_first() {
-        Some((token, rest)) => valued(operator_at(of_rank, *token), rest),
+        Some((token, rest)) => read_value(operator_at(of_rank, *token), rest),
         None => Err(Stopped {
             fault: None,
             left: 0,
@@ -240,7 +240,7 @@ pub(crate) fn take_comma<'a>(tokens: &'a [ConditionToken]) -> Result<Read<'a, u3
     ensures read { Reads (taken 0 spec.comma_of tokens.now) result }
 {
     match tokens.split_first() {
-        Some((token, rest)) => valued(comma_at(*token), rest),
+        Some((token, rest)) => read_value(comma_at(*token), rest),
         None => Err(Stopped {
             fault: None,
             left: 0,

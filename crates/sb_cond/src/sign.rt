@@ -3,7 +3,7 @@
 use crate::arithmetic::Operator;
 
 /// What a token of a condition is.
-#[derive(Clone, Copy, Debug, PartialEq, Eq)]
+#[derive(Clone, Copy, PartialEq, Eq)]
 pub enum Sign {
     /// A number, a character constant, or a name that is left, which is 0.
     Number { bits: u64, unsigned: bool },
@@ -21,14 +21,14 @@ pub enum Sign {
 }
 
 /// A token and its position in the line, from 0.
-#[derive(Clone, Copy, Debug, PartialEq, Eq)]
+#[derive(Clone, Copy, PartialEq, Eq)]
 pub struct ConditionToken {
     pub sign: Sign,
     pub at: u32,
 }
 
 /// A sign that has to stand at some place of an expression.
-#[derive(Clone, Copy, Debug, PartialEq, Eq)]
+#[derive(Clone, Copy, PartialEq, Eq)]
 pub enum Mark {
     Open,
     Close,

@@ -3,7 +3,7 @@ use Rattle.std.proofs.Common.{◌≡◌, ◌++◌, ◌∷◌, ◌∙◌, ◌↔�
 use Rattle.std.specs.Bool.{◌==◌}
 use Rattle.std.proofs.lemmas.Option.{some_pair_parts}
 use Rattle.std.proofs.lemmas.List.{same_from_push}
-use Rattle.sb_lex.specs.Values.{character, Characters, IsText}
+use Rattle.sb_lex.specs.Values.{character, char_value, Characters, IsCharacter, IsText}
 use Rattle.sb_lex.specs.Values.Characters.{none, one}
 
 pub at_end : (text : List ℕ) → true ≡ (length text == 0) → Characters text []
@@ -50,3 +50,11 @@ on text rest byte is = (
 pub goes_on : (text rest behind_it out more : List ℕ) (byte : ℕ) → Some (byte, behind_it) ≡ character rest → ((l : List ℕ) → Characters rest l → Characters text (out ++ l)) → Characters behind_it more → Characters text ((out ++ byte ∷ []) ++ more)
 goes_on text rest behind_it out more byte is goes named =
     rw (append_assoc out (byte ∷ []) more) (goes (byte ∷ more) (one rest behind_it more byte (sym is) named))
+
+-- a character constant has one value
+pub one_value : (text : List ℕ) (a b : ℕ) → IsCharacter text a → IsCharacter text b → a ≡ b
+one_value text a b first second =
+    let whole : first.body ++ 39 ∷ [] ≡ second.body ++ 39 ∷ [] = cc (first.quoted, second.quoted) in
+    let body = (same_from_push first.body second.body 39 39 whole).0 in
+    let same = some_pair_parts first.byte second.byte [] [] (sym first.alone ∙ ap character body ∙ second.alone) in
+    first.converted ∙ ap char_value same.0 ∙ sym second.converted

@@ -4,4 +4,5 @@ pub mod Cursors
 pub mod Values
 pub mod Lexing
 pub mod Faults
+pub mod Tables
 pub mod Places

@@ -66,7 +66,7 @@ impl<'a> Model for Cursor<'a> {
 }
 
 /// The first byte of the text from this place on.
-fn settled(bytes: &[u8], line: u32, col: u32) -> Cursor
+fn cursor_at(bytes: &[u8], line: u32, col: u32) -> Cursor
     requires { IsNear line col bytes.now }
     ensures { result ≡ spliced line col bytes.now }
 {
@@ -97,9 +97,9 @@ impl<'a> Cursor<'a> {
         ensures short { length result ≤ 4194304 }
     {
         if bytes.starts_with(&MARK) {
-            settled(&bytes[3..], 1, 4)
+            cursor_at(&bytes[3..], 1, 4)
         } else {
-            settled(bytes, 1, 1)
+            cursor_at(bytes, 1, 1)
         }
     }
 
@@ -136,9 +136,9 @@ impl<'a> Cursor<'a> {
             return;
         };
         if *byte == b'\n' {
-            *self = settled(behind, self.line + 1, 1);
+            *self = cursor_at(behind, self.line + 1, 1);
         } else {
-            *self = settled(behind, self.line, self.col + 1);
+            *self = cursor_at(behind, self.line, self.col + 1);
         }
     }
 

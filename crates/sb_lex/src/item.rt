@@ -11,7 +11,7 @@ use crate::scan::{Quote, Scan, Stem};
 use sb_base::PpKind;
 
 /// What an item is for the text.
-#[derive(Clone, Copy, Debug, PartialEq, Eq)]
+#[derive(Clone, Copy, PartialEq, Eq)]
 pub enum What {
     Newline,
     /// A blank or a comment.
@@ -21,7 +21,7 @@ pub enum What {
 
 /// An item: what it is, how many bytes open it, how it goes on behind them, and the number of the refusal where it
 /// does not end.
-#[derive(Clone, Copy, Debug, PartialEq, Eq)]
+#[derive(Clone, Copy, PartialEq, Eq)]
 pub struct Item {
     pub what: What,
     pub opening: usize,
@@ -30,7 +30,7 @@ pub struct Item {
 }
 
 /// How far the line that an item stands in has come.
-#[derive(Clone, Copy, Debug, PartialEq, Eq)]
+#[derive(Clone, Copy, PartialEq, Eq)]
 pub enum Line {
     /// Nothing but white space stands before.
     Begin,

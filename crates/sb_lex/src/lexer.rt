@@ -5,6 +5,7 @@ ghost use Rattle.sb_lex.specs.Splicing.{text_of_file};
 ghost use Rattle.sb_lex.specs.Lexing.{Lexes, End, PiecesOf, most_pieces};
 ghost use Rattle.sb_lex.specs.Lexing.End.{Whole};
 ghost use Rattle.sb_lex.specs.Faults.{IsFault, IsNoPieces, IsNamed, HasOneReading, KeepsNumbers};
+ghost use Rattle.sb_lex.specs.Tables.{KeepsTable};
 
 use crate::cursor::Cursor;
 use crate::item::{Line, What, item_at};
@@ -16,7 +17,7 @@ use std::alloc::Global;
 /// A file has at most so many pieces.
 const MOST_PIECES: usize = 1_000_000;
 
-fn refused(number: u16, place: Place) -> Stop
+fn stop_at(number: u16, place: Place) -> Stop
     ensures { result ≡ Stop.Refused (record { number = number; place = place; feature = 0 }) }
 {
     Stop::Refused(Refusal {
@@ -42,14 +43,14 @@ fn number_of(
     ensures within { length names.old.texts ≤ names.old.limit → length names.new.texts ≤ names.new.limit }
 {
     if !has_value(kind, text) {
-        return Err(refused(4, place));
+        return Err(stop_at(4, place));
     }
     if count >= MOST_PIECES {
-        return Err(refused(5, place));
+        return Err(stop_at(5, place));
     }
     match names.intern(alloc, text) {
         Ok(name) => Ok(name),
-        Err(NamesFault::Full) => Err(refused(28, place)),
+        Err(NamesFault::Full) => Err(stop_at(28, place)),
         Err(NamesFault::Memory) => Err(Stop::Memory),
     }
 }
@@ -59,10 +60,7 @@ fn pieces(alloc: Global, names: &mut Names, bytes: &[u8], file: u32) -> Result<V
     requires { length bytes.now ≤ 4194304 }
     ensures most { IfOk result (λ pieces. length pieces.items ≤ most_pieces) }
     ensures pieces { MatchResult result (λ pieces. Lexes file names.old.limit Line.Begin false 0 names.old.texts (text_of_file bytes.now) pieces.items names.new.texts Whole) (IsFault file names.old.limit names.old.texts (text_of_file bytes.now) names.new.texts) }
-    ensures limit { names.new.limit ≡ names.old.limit }
-    ensures numbers { KeepsNumbers names.old.texts names.new.texts }
-    ensures distinct { IsDistinct names.old.texts → IsDistinct names.new.texts }
-    ensures within { length names.old.texts ≤ names.old.limit → length names.new.texts ≤ names.new.limit }
+    ensures table { KeepsTable names.old names.new }
 {
     let mut pieces = Vec::new(alloc);
     let mut text = Vec::new(alloc);
@@ -73,7 +71,7 @@ fn pieces(alloc: Global, names: &mut Names, bytes: &[u8], file: u32) -> Result<V
         let place = spot.place(file);
         let item = item_at(line, &rest);
         let Some(size) = item.size(&rest) else {
-            return Err(refused(item.refusal, place));
+            return Err(stop_at(item.refusal, place));
         };
         let What::Piece(kind) = item.what else {
             rest.skip(size);

@@ -17,6 +17,3 @@ pub use lexer::lex;
 pub use lines::laws;
 pub use piece::PpToken;
 pub use values::{character_value, is_literal, literal_bytes, number_value};
-
-#[cfg(test)]
-mod tests;

@@ -5,21 +5,21 @@ ghost use Rattle.sb_lex.specs.Items.{stem_scan, quote_byte, number_after, next_o
 use crate::bytes::{is_basic, is_hex_digit, is_word_byte};
 
 /// What a universal character name is part of (C99 6.4.3).
-#[derive(Clone, Copy, Debug, PartialEq, Eq)]
+#[derive(Clone, Copy, PartialEq, Eq)]
 pub enum Stem {
     Word,
     Number,
 }
 
 /// Which literal is read.
-#[derive(Clone, Copy, Debug, PartialEq, Eq)]
+#[derive(Clone, Copy, PartialEq, Eq)]
 pub enum Quote {
     Char,
     Text,
 }
 
 /// How far a piece, or white space, has been read.
-#[derive(Clone, Copy, Debug, PartialEq, Eq)]
+#[derive(Clone, Copy, PartialEq, Eq)]
 pub enum Scan {
     /// It is whole and goes on with nothing.
     Done,

@@ -4,7 +4,7 @@ ghost use Rattle.std.specs.Prelude.{◌≡◌};
 use sb_base::Place;
 
 /// A byte of a text whose lines are spliced, with its physical line and its column in bytes, both from 1.
-#[derive(Clone, Copy, Debug, PartialEq, Eq)]
+#[derive(Clone, Copy, PartialEq, Eq)]
 pub struct Spot {
     pub byte: u8,
     pub line: u32,

@@ -8,7 +8,7 @@ use sb_base::PpKind;
 use std::alloc::{AllocError, Global};
 
 /// The base of the digits of a number.
-#[derive(Clone, Copy, Debug, PartialEq, Eq)]
+#[derive(Clone, Copy, PartialEq, Eq)]
 pub enum Base {
     Octal,
     Decimal,
@@ -223,7 +223,7 @@ fn first_character(text: &[u8]) -> Option<(u8, &[u8])>
 }
 
 /// What stands between two quotes; None where the text has not both.
-fn unquoted(quote: u8, text: &[u8]) -> Option<&[u8]>
+fn inside_quotes(quote: u8, text: &[u8]) -> Option<&[u8]>
     ensures some { IfSome result (λ body. text.now ≡ quote ∷ (body.now ++ quote ∷ [])) }
     ensures none { IfNone result ((body : List ℕ) → text.now ≡ quote ∷ (body ++ quote ∷ []) → ⊥) }
 {
@@ -254,7 +254,7 @@ pub fn character_value(text: &[u8]) -> Option<u64>
     ensures none { IfNone result ((value : ℕ) → spec.IsCharacter text.now value → ⊥) }
     ensures only { (value other : ℕ) → spec.IsCharacter text.now value → spec.IsCharacter text.now other → value ≡ other }
 {
-    let body = unquoted(b'\'', text)?;
+    let body = inside_quotes(b'\'', text)?;
     let (byte, rest) = first_character(body)?;
     if rest.is_empty() {
         Some(char_value(byte))
@@ -267,7 +267,7 @@ pub fn character_value(text: &[u8]) -> Option<u64>
 pub fn is_literal(text: &[u8]) -> bool
     ensures literal { IsTrue result ↔ ((bytes : List ℕ) × spec.IsText text.now bytes) }
 {
-    let Some(body) = unquoted(b'"', text) else {
+    let Some(body) = inside_quotes(b'"', text) else {
         return false;
     };
     are_characters(body)
@@ -308,7 +308,7 @@ pub fn literal_bytes(alloc: Global, text: &[u8]) -> Result<Option<Vec<u8>>, Allo
     ensures literal { IfOk result (λ found. MatchOption found ((bytes : List ℕ) → spec.IsText text.now bytes → ⊥) (λ v. spec.IsText text.now v.items)) }
     ensures only { (bytes others : List ℕ) → spec.IsText text.now bytes → spec.IsText text.now others → bytes ≡ others }
 {
-    match unquoted(b'"', text) {
+    match inside_quotes(b'"', text) {
         Some(body) => character_bytes(alloc, body),
         None => Ok(None),
     }
@@ -335,76 +335,5 @@ pub(crate) fn has_value(kind: PpKind, text: &[u8]) -> bool
         PpKind::Char => is_character(text),
         PpKind::Text => is_literal(text),
         PpKind::Word | PpKind::Header | PpKind::Punct => true,
-    }
-}
-
-#[cfg(test)]
-mod tests {
-    use super::*;
-    use std::test::Fail;
-
-    #[test]
-    fn reads_integer_constants(rt: HostRuntime) -> Result<(), Fail> {
-        for (text, want) in [
-            ("0", Some(0)),
-            ("42", Some(42)),
-            ("017", Some(15)),
-            ("0x1F", Some(31)),
-            ("10uLL", Some(10)),
-            ("10lu", Some(10)),
-            ("18446744073709551615", Some(u64::MAX)),
-            ("18446744073709551616", None),
-            ("08", None),
-            ("0x", None),
-            ("1lL", None),
-            ("1ul1", None),
-            ("1.5", None),
-            ("1e5", None),
-            ("u", None),
-        ] {
-            assert_eq!(rt; number_value(text.as_bytes()), want, "at {text}");
-        }
-        Ok(())
-    }
-
-    #[test]
-    fn reads_character_constants(rt: HostRuntime) -> Result<(), Fail> {
-        for (text, want) in [
-            ("'a'", Some(97)),
-            ("'\\n'", Some(10)),
-            ("'\\0'", Some(0)),
-            ("'\\101'", Some(65)),
-            ("'\\xff'", Some(u64::MAX)),
-            ("'\\u00e9'", Some(u64::MAX - 22)),
-            ("'\\u0041'", None),
-            ("'\\x100'", None),
-            ("'\\q'", None),
-            ("'ab'", None),
-            ("''", None),
-            ("'", None),
-        ] {
-            assert_eq!(rt; character_value(text.as_bytes()), want, "at {text}");
-        }
-        Ok(())
-    }
-
-    #[test]
-    fn reads_string_literals(rt: HostRuntime) -> Result<(), Fail> {
-        for (text, want) in [
-            ("\"a\\tb\"", Some("a\tb")),
-            ("\"\\1234\"", Some("S4")),
-            ("\"\"", Some("")),
-            ("\"\\x\"", None),
-            ("\"\\u12\"", None),
-        ] {
-            let text = text.as_bytes();
-            let found = literal_bytes(rt.alloc(), text)?;
-            assert_eq!(rt;
-                found.as_ref().map(|bytes| bytes.as_slice()),
-                want.map(|bytes| bytes.as_bytes())
-            );
-            assert_eq!(rt; is_literal(text), want.is_some());
-        }
-        Ok(())
     }
 }

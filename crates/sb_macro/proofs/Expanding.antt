@@ -4,8 +4,8 @@ use Rattle.std.specs.List.{slice_get}
 use Rattle.sb_base.specs.declared.refusals.Place.{Place}
 use Rattle.sb_macro.specs.declared.halt.Halt.{Halt}
 use Rattle.sb_macro.specs.declared.halt.Halt.TheVariants.{Refused, Memory}
-use Rattle.sb_macro.specs.Expansion.{Scope, Step, step, step_of, step_by, called, Replaced, Gives, start, kept, replaced, Stops, too_many, inside, AreSmall, EachGives}
-use Rattle.sb_macro.specs.Halts.{moved}
+use Rattle.sb_macro.specs.Expansion.{Scope, Step, step, step_of, step_by, called_macro, Replaced, Gives, start, kept, replaced, Stops, too_many, inside, AreSmall, EachGives}
+use Rattle.sb_macro.specs.Halts.{halt_at}
 use Rattle.sb_macro.specs.Macros.{Macro}
 use Rattle.sb_macro.specs.Replacing.{AreRefused, IsHalt, Replaces, StopsWith, replaces, stops_inside}
 use Rattle.sb_macro.specs.Tokens.{Tok}
@@ -29,7 +29,7 @@ pub record AreExpanding (scope : Scope) (args fulls left : List (List Tok)) : Ty
 
 module _ (scope : Scope) (list out : List Tok) (t : Tok) (rest : List Tok) where
   -- a token that stays
-  pub kept_on : IsExpanding scope list out (t ∷ rest) → called scope t rest ≡ None → length out < scope.room → IsExpanding scope list (out ++ t ∷ []) rest
+  pub kept_on : IsExpanding scope list out (t ∷ rest) → called_macro scope t rest ≡ None → length out < scope.room → IsExpanding scope list (out ++ t ∷ []) rest
   kept_on e none room = record {
     reach = λ more last g. rw append_assoc (e.reach (t ∷ more) last (kept t rest more last (ap (step_of scope.texts rest) none) g));
     room = omega (arith, length-append out (t ∷ []));
@@ -48,7 +48,7 @@ module _ (scope : Scope) (list out : List Tok) (t : Tok) (rest : List Tok) where
   before e = rw (append-nil out) at (e.reach [] (t ∷ rest) (start (t ∷ rest)))
 
   -- one token more than there is room for
-  pub no_room : (last : Place) → IsExpanding scope list out (t ∷ rest) → called scope t rest ≡ None → scope.room ≤ length out → Stops scope last list 16 t.piece.place
+  pub no_room : (last : Place) → IsExpanding scope list out (t ∷ rest) → called_macro scope t rest ≡ None → scope.room ≤ length out → Stops scope last list 16 t.piece.place
   no_room last e none full = too_many last list out t rest (before e) (omega (arith, e.room)) (ap (step_of scope.texts rest) none)
 
   pub halts_at : (last : Place) (halt : Halt) → IsExpanding scope list out (t ∷ rest) → IsHalt scope last t rest halt → StopsWith scope last list halt
@@ -59,7 +59,7 @@ pub all_given : (scope : Scope) (list out : List Tok) → IsExpanding scope list
 all_given scope list out e = (rw (append-nil out) at (e.reach [] [] (start [])), e.room)
 
 -- the step at a name that is called
-pub step_called : (scope : Scope) (t : Tok) (rest : List Tok) (m : Macro) (s : Step) → called scope t rest ≡ Some m → step_by scope.texts m m.params rest ≡ s → step scope t rest ≡ s
+pub step_called : (scope : Scope) (t : Tok) (rest : List Tok) (m : Macro) (s : Step) → called_macro scope t rest ≡ Some m → step_by scope.texts m m.params rest ≡ s → step scope t rest ≡ s
 step_called scope t rest m s is by = ap (step_of scope.texts rest) is ∙ by
 
 -- an argument is refused where it is expanded by itself
@@ -91,7 +91,7 @@ module _ (scope : Scope) (args fulls : List (List Tok)) (arg : List Tok) (left :
       }
 
   -- one is refused
-  pub argument_halts : (place at : Place) (halt : Halt) → AreExpanding scope args fulls (arg ∷ left) → StopsWith scope place arg halt → AreRefused scope args at (moved at halt)
+  pub argument_halts : (place at : Place) (halt : Halt) → AreExpanding scope args fulls (arg ∷ left) → StopsWith scope place arg halt → AreRefused scope args at (halt_at at halt)
   argument_halts place at (Refused number there) e stops =
       (stops_inside fulls e.small e.each arg (drop_front args (length fulls) arg left e.left_are).0 place there stops, refl)
   argument_halts place at Memory e stops = tt

@@ -12,13 +12,13 @@ use Rattle.sb_lex.specs.Places.{IsAmong}
 use Rattle.sb_macro.specs.declared.arguments.Turn.{Turn}
 use Rattle.sb_macro.specs.declared.arguments.Turn.TheVariants.{Ends, Parts, Goes}
 use Rattle.sb_macro.specs.declared.stored.Part.{Part}
-use Rattle.sb_macro.specs.Arguments.{Split, arguments, given, onto_first, split_at, turn_of}
-use Rattle.sb_macro.specs.Expansion.{Scope, Step, step, step_of, step_by, step_with, called, Replaced, Miscounted, Gives, start, kept, replaced, Stops, too_many, unclosed, miscounted, inside, Expanded, expands, IsStop, place_of_last}
+use Rattle.sb_macro.specs.Arguments.{Split, arguments, arguments_for, onto_first, split_at, turn_of}
+use Rattle.sb_macro.specs.Expansion.{Scope, Step, step, step_of, step_by, step_with, called_macro, Replaced, Miscounted, Gives, start, kept, replaced, Stops, too_many, unclosed, miscounted, inside, Expanded, expands, IsStop, place_of_last}
 use Rattle.sb_macro.specs.Halts.{nowhere}
 use Rattle.sb_macro.specs.Macros.{Macro, param_of}
 use Rattle.sb_macro.specs.Marks.{mark_of}
 use Rattle.sb_macro.specs.Places.{StopsAmong}
-use Rattle.sb_macro.specs.Replacement.{argument, hidden_by, led, moved, replacement, standing, standing_at}
+use Rattle.sb_macro.specs.Replacement.{argument, hidden_by, with_lead, argument_token, replacement, standing, standing_at}
 use Rattle.sb_macro.specs.Tokens.{Tok, fresh}
 use Rattle.sb_macro.proofs.ExpansionLaws.{ends_nowhere}
 
@@ -65,7 +65,7 @@ module _ (P : Place → Type 0) where
 
   behind_with : (m : Macro) (params : List Name) (split : Option Split) → After split → Behind (step_with m params split)
   behind_with m params None after = tt
-  behind_with m params (Some split) after = behind_counted m _ split.1 (nat_eq (length (given params split.0)) (length params)) after
+  behind_with m params (Some split) after = behind_counted m _ split.1 (nat_eq (length (arguments_for params split.0)) (length params)) after
 
   behind_open : (rest : List Tok) → At rest → At (drop 1 rest)
   behind_open [] ats = tt
@@ -80,14 +80,14 @@ module _ (P : Place → Type 0) where
   behind_of texts rest (Some m) ats = behind_by texts m m.params rest ats
 
   behind_step : (scope : Scope) (t : Tok) (rest : List Tok) → At rest → Behind (step scope t rest)
-  behind_step scope t rest ats = behind_of scope.texts rest (called scope t rest) ats
+  behind_step scope t rest ats = behind_of scope.texts rest (called_macro scope t rest) ats
 
   -- so is what stands in place of a name
-  at_led : (first spaced : Bool) (ts : List Tok) → At ts → At (led first spaced ts)
+  at_led : (first spaced : Bool) (ts : List Tok) → At ts → At (with_lead first spaced ts)
   at_led first spaced [] ats = tt
   at_led first spaced (t ∷ ts) ats = ats
 
-  at_moved : (place : Place) (hidden : List Name) (ts : List Tok) → P place → At (map (λ u. moved place hidden u.piece.spaced u) ts)
+  at_moved : (place : Place) (hidden : List Name) (ts : List Tok) → P place → At (map (λ u. argument_token place hidden u.piece.spaced u) ts)
   at_moved place hidden [] here = tt
   at_moved place hidden (t ∷ ts) here = (here, at_moved place hidden ts here)
 

@@ -7,7 +7,7 @@ use Rattle.sb_macro.specs.declared.marks.Mark.{Mark}
 use Rattle.sb_macro.specs.declared.marks.Mark.TheVariants.{Open, Close, Comma}
 use Rattle.sb_macro.specs.declared.stored.Part.{Part}
 use Rattle.sb_macro.specs.declared.arguments.Turn.TheVariants.{Ends, Parts, Goes}
-use Rattle.sb_macro.specs.Arguments.{Split, arguments, needed, turn_of, onto_first}
+use Rattle.sb_macro.specs.Arguments.{Split, arguments, needed_arguments, turn_of, onto_first}
 use Rattle.sb_macro.specs.Marks.{mark_of}
 use Rattle.sb_macro.specs.Tokens.{Tok}
 
@@ -69,7 +69,7 @@ deeper_by_one Comma depth deeper is = elim (eqb_tells depth 0) [
 ]
 deeper_by_one _ depth deeper is = let e : depth ≡ deeper = cc in omega arith
 
-pub needed_none : (body : List Part) (params : List Name) → needed body params [] ≡ []
+pub needed_none : (body : List Part) (params : List Name) → needed_arguments body params [] ≡ []
 needed_none body [] = refl
 needed_none body (param ∷ params) = refl
 

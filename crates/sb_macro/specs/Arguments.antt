@@ -39,19 +39,19 @@ arguments texts depth [] = None
 arguments texts depth (t ∷ rest) = split_at (turn_of (mark_of texts t.piece.text) depth) t rest (λ deeper. arguments texts deeper rest)
 
 -- where a macro has no parameters, one empty argument is none
-abbrev pub given : List Name → List (List Tok) → List (List Tok)
-given [] ([] ∷ []) = []
-given params args = args
+abbrev pub arguments_for : List Name → List (List Tok) → List (List Tok)
+arguments_for [] ([] ∷ []) = []
+arguments_for params args = args
 
 -- whether the replacement list has the parameter
 abbrev pub occurs : List Part → Name → Bool
 occurs body param = list_any (λ part. same_name part.text param) body
 
 -- the arguments that are to be expanded: those whose parameters the replacement list lacks count as empty
-abbrev pub needed : List Part → List Name → List (List Tok) → List (List Tok)
-needed body [] args = []
-needed body (param ∷ params) [] = []
-needed body (param ∷ params) (arg ∷ args) = (if occurs body param then arg else []) ∷ needed body params args
+abbrev pub needed_arguments : List Part → List Name → List (List Tok) → List (List Tok)
+needed_arguments body [] args = []
+needed_arguments body (param ∷ params) [] = []
+needed_arguments body (param ∷ params) (arg ∷ args) = (if occurs body param then arg else []) ∷ needed_arguments body params args
 
 -- whether there is one argument, and it is empty
 abbrev pub is_one_empty : List (List Tok) → Bool

@@ -15,7 +15,7 @@ use Rattle.sb_base.specs.declared.tokens.PpKind.TheVariants.{Word}
 use Rattle.sb_lex.specs.declared.piece.PpToken.{PpToken}
 use Rattle.sb_macro.specs.declared.marks.Mark.{Mark}
 use Rattle.sb_macro.specs.declared.marks.Mark.TheVariants.{Open}
-use Rattle.sb_macro.specs.Arguments.{Split, arguments, given, needed}
+use Rattle.sb_macro.specs.Arguments.{Split, arguments, arguments_for, needed_arguments}
 use Rattle.sb_macro.specs.Halts.{nowhere}
 use Rattle.sb_macro.specs.Macros.{Macro, holds, macro_named}
 use Rattle.sb_macro.specs.Marks.{mark_of}
@@ -46,8 +46,8 @@ abbrev pub if_called : List (List ℕ) → List Tok → Macro → Option Macro
 if_called texts rest m = if is_none m.params || opens texts rest then Some m else None
 
 -- the macro that the token t is replaced by, where rest follows it
-abbrev pub called : Scope → Tok → List Tok → Option Macro
-called scope t rest =
+abbrev pub called_macro : Scope → Tok → List Tok → Option Macro
+called_macro scope t rest =
     if is_word t.piece.kind && not (holds t.hidden t.piece.text)
     then option_and_then (if_called scope.texts rest) (macro_named scope.macros t.piece.text)
     else None
@@ -63,8 +63,8 @@ pub data Step : Type 0 where
 abbrev pub step_with : Macro → List Name → Option Split → Step
 step_with m params None = Unclosed
 step_with m params (Some split) =
-    if nat_eq (length (given params split.0)) (length params)
-    then Replaced m (needed m.body params (given params split.0)) split.1
+    if nat_eq (length (arguments_for params split.0)) (length params)
+    then Replaced m (needed_arguments m.body params (arguments_for params split.0)) split.1
     else Miscounted
 
 abbrev pub step_by : List (List ℕ) → Macro → Option (List Name) → List Tok → Step
@@ -77,7 +77,7 @@ step_of texts rest (Some m) = step_by texts m m.params rest
 
 -- what is to be done with the token t, where rest follows it
 abbrev pub step : Scope → Tok → List Tok → Step
-step scope t rest = step_of scope.texts rest (called scope t rest)
+step scope t rest = step_of scope.texts rest (called_macro scope t rest)
 
 -- no expanded argument has more tokens than there is room for
 abbrev pub AreSmall : ℕ → List (List Tok) → Type 0

@@ -20,6 +20,6 @@ stop_of (Refused number place) = stop.Refused (refusal number place)
 stop_of Memory = stop.Memory
 
 -- the halt of an argument, at the place of the name whose argument it is
-abbrev pub moved : Place → Halt → Halt
-moved at (Refused number place) = Refused number at
-moved at Memory = Memory
+abbrev pub halt_at : Place → Halt → Halt
+halt_at at (Refused number place) = Refused number at
+halt_at at Memory = Memory

@@ -33,5 +33,5 @@ abbrev pub fulls_of : List (Vec Marked Global) → List (List Tok)
 fulls_of = map (λ full. toks full.items)
 
 -- both lists of names, each name of the second only where the first lacks it
-abbrev pub both : List Name → List Name → List Name
-both names more = names ++ filter (λ name. not (holds names name)) more
+abbrev pub all_names : List Name → List Name → List Name
+all_names names more = names ++ filter (λ name. not (holds names name)) more

@@ -1,6 +1,6 @@
 //! The arguments of a call of a function-like macro.
 ghost use Rattle.std.specs.Prelude.{◌≡◌, ◌<◌, ◌^◌, ◌-◌, Some, None, IfOk, length};
-ghost use Rattle.sb_macro.specs.Arguments.{turn_of, arguments, given, is_one_empty, needed, occurs};
+ghost use Rattle.sb_macro.specs.Arguments.{turn_of, arguments, arguments_for, is_one_empty, needed_arguments, occurs};
 ghost use Rattle.sb_macro.specs.Taking.{HasTaken};
 ghost use Rattle.sb_macro.specs.Tokens.{toks, lists};
 
@@ -12,7 +12,7 @@ use std::alloc::{AllocError, Global};
 use std::collections::VecDeque;
 
 /// What a token does to the arguments that are read.
-#[derive(Clone, Copy, Debug, PartialEq, Eq)]
+#[derive(Clone, Copy, PartialEq, Eq)]
 pub enum Turn {
     /// It closes them.
     Ends,
@@ -78,8 +78,8 @@ pub fn take_arguments(
 }
 
 /// The arguments as a macro with these parameters is given them.
-pub fn given(params: &[Name], args: VecDeque<Tokens>) -> VecDeque<Tokens>
-    ensures { lists result.items ≡ given params.now (lists args.items) }
+pub fn arguments_for(params: &[Name], args: VecDeque<Tokens>) -> VecDeque<Tokens>
+    ensures { lists result.items ≡ arguments_for params.now (lists args.items) }
 {
     let mut args = args;
     if params.is_empty() && is_one_empty(&args) {
@@ -108,13 +108,13 @@ fn occurs(body: &[Part], param: Name) -> bool
 }
 
 /// The arguments that are to be expanded.
-pub fn needed(
+pub fn needed_arguments(
     alloc: Global,
     body: &[Part],
     params: &[Name],
     args: VecDeque<Tokens>,
 ) -> Result<VecDeque<Tokens>, AllocError>
-    ensures { IfOk result (λ kept. lists kept.items ≡ needed body.now params.now (lists args.items)) }
+    ensures { IfOk result (λ kept. lists kept.items ≡ needed_arguments body.now params.now (lists args.items)) }
 {
     let mut args = args;
     let mut kept = VecDeque::new(alloc);

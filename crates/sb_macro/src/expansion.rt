@@ -1,13 +1,13 @@
 //! The expansion of a list of tokens.
 ghost use Rattle.std.specs.Prelude.{◌≡◌, ◌≤◌, ◌<◌, ◌+◌, [], Some, None, IfOk, OnOk, MatchResult, length, map, reverse};
 ghost use Rattle.std.specs.Option.{option_copied, option_map};
-ghost use Rattle.sb_macro.specs.Expansion.{opens, called, step_by, place_of_last, Expanded, Gives};
+ghost use Rattle.sb_macro.specs.Expansion.{opens, called_macro, step_by, place_of_last, Expanded, Gives};
 ghost use Rattle.sb_macro.specs.Macros.{macro_of};
 ghost use Rattle.sb_macro.specs.Replacing.{scope_of, IsTaken, AreExpanded, AreRefused, Replaces, IsHalt, StopsWith};
 ghost use Rattle.sb_macro.specs.Tokens.{fresh, tok_of, toks, lists, fulls_of};
 
-use crate::arguments::{given, needed, take_arguments};
-use crate::halt::{Halt, moved, nowhere};
+use crate::arguments::{arguments_for, needed_arguments, take_arguments};
+use crate::halt::{Halt, halt_at, nowhere};
 use crate::marked::{Marked, Tokens, fresh, pieces};
 use crate::marks::{Mark, mark_of};
 use crate::replacing::{put_before, replacement};
@@ -87,8 +87,8 @@ impl Expander<'_> {
     }
 
     /// The macro that is to replace a token.
-    fn called(&self, marked: &Marked, rest: &Tokens) -> Option<&Stored>
-        ensures { option_map macro_of (option_copied result) ≡ called (scope_of self.now) (tok_of marked.now) (toks rest.now.items) }
+    fn called_macro(&self, marked: &Marked, rest: &Tokens) -> Option<&Stored>
+        ensures { option_map macro_of (option_copied result) ≡ called_macro (scope_of self.now) (tok_of marked.now) (toks rest.now.items) }
     {
         if marked.token.kind != PpKind::Word {
             return None;
@@ -115,11 +115,11 @@ impl Expander<'_> {
         let Some(split) = take_arguments(alloc, self.names, rest)? else {
             return Ok(Taken::Unclosed);
         };
-        let args = given(params, split);
+        let args = arguments_for(params, split);
         if args.len() != params.len() {
             return Ok(Taken::Miscounted);
         }
-        Ok(Taken::Args(needed(alloc, &stored.body, params, args)?))
+        Ok(Taken::Args(needed_arguments(alloc, &stored.body, params, args)?))
     }
 
     /// What the tokens of `pending` give, in which `last` is the place of the last piece of the text.
@@ -138,7 +138,7 @@ impl Expander<'_> {
         let mut pending = pending;
         let mut out = Vec::new(alloc);
         while let Some(marked) = pending.pop_front() {
-            match self.called(&marked, &pending) {
+            match self.called_macro(&marked, &pending) {
                 Some(stored) => {
                     match self.replace(alloc, stored, &marked, &mut pending, last, depth, budget) {
                         Ok(()) => (),
@@ -168,7 +168,7 @@ impl Expander<'_> {
         depth: u32,
         budget: &mut Budget,
     ) -> Result<(), Halt>
-        requires called { called (scope_of self.now) (tok_of name.now) (toks pending.old.items) ≡ Some (macro_of stored.now) }
+        requires called { called_macro (scope_of self.now) (tok_of name.now) (toks pending.old.items) ≡ Some (macro_of stored.now) }
         ensures replaced { MatchResult result (λ _. Replaces (scope_of self.now) (tok_of name.now) (toks pending.old.items) (toks pending.new.items)) (IsHalt (scope_of self.now) last (tok_of name.now) (toks pending.old.items)) }
         ensures budget { budget.new.replacements ≤ budget.old.replacements }
         ensures spent { OnOk result (budget.new.replacements < budget.old.replacements) }
@@ -213,7 +213,7 @@ impl Expander<'_> {
             }
             match self.expand_list(alloc, arg, place, depth - 1, budget) {
                 Ok(full) => fulls.push(full)?,
-                Err(halt) => return Err(moved(halt, place)),
+                Err(halt) => return Err(halt_at(halt, place)),
             }
         }
         Ok(fulls)

@@ -1,12 +1,12 @@
 //! Why reading a definition or expanding a text stops.
 ghost use Rattle.std.specs.Prelude.{◌≡◌};
-ghost use Rattle.sb_macro.specs.Halts.{moved, nowhere, stop_of};
+ghost use Rattle.sb_macro.specs.Halts.{halt_at, nowhere, stop_of};
 
 use sb_base::{Place, Refusal, Stop};
 use std::alloc::{AllocError, AllocFailed};
 
 /// The number and the place of a refusal, or want of memory.
-#[derive(Clone, Copy, Debug, PartialEq, Eq)]
+#[derive(Clone, Copy, PartialEq, Eq)]
 pub enum Halt {
     Refused(u16, Place),
     Memory,
@@ -49,8 +49,8 @@ pub fn stop_of(halt: Halt) -> Stop
 }
 
 /// The halt of an argument, at the place of the name whose argument it is.
-pub fn moved(halt: Halt, place: Place) -> Halt
-    ensures { result ≡ moved place halt }
+pub fn halt_at(halt: Halt, place: Place) -> Halt
+    ensures { result ≡ halt_at place halt }
 {
     match halt {
         Halt::Refused(number, _) => Halt::Refused(number, place),

@@ -19,6 +19,3 @@ mod stored;
 mod table;
 
 pub use table::Macros;
-
-#[cfg(test)]
-mod tests;

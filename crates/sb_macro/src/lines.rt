@@ -14,7 +14,7 @@ use sb_lex::PpToken;
 use std::alloc::{AllocError, Global};
 
 /// What may come next in a list of parameters.
-#[derive(Clone, Copy, Debug, PartialEq, Eq)]
+#[derive(Clone, Copy, PartialEq, Eq)]
 pub enum Expected {
     /// A parameter, or the end of an empty list.
     First,
@@ -25,7 +25,7 @@ pub enum Expected {
 }
 
 /// What a piece is in a list of parameters.
-#[derive(Clone, Copy, Debug, PartialEq, Eq)]
+#[derive(Clone, Copy, PartialEq, Eq)]
 pub enum Listed {
     Named,
     Separated,
@@ -55,13 +55,13 @@ fn listed_as(mark: Mark, expected: Expected, is_new: bool) -> Listed
         (Mark::Close, Expected::First) => Listed::Ended,
         (Mark::Close, Expected::Separator) => Listed::Ended,
         (Mark::Comma, Expected::Separator) => Listed::Separated,
-        (Mark::Other, Expected::First) => named(is_new),
-        (Mark::Other, Expected::Next) => named(is_new),
+        (Mark::Other, Expected::First) => listed_name(is_new),
+        (Mark::Other, Expected::Next) => listed_name(is_new),
         _ => Listed::Bad(11),
     }
 }
 
-fn named(is_new: bool) -> Listed
+fn listed_name(is_new: bool) -> Listed
     ensures { result ≡ (if is_new then Listed.Named else Listed.Bad 11) }
 {
     if is_new {

@@ -1,6 +1,6 @@
 //! Tokens under expansion.
 ghost use Rattle.std.specs.Prelude.{◌≡◌, IfOk, map, false};
-ghost use Rattle.sb_macro.specs.Tokens.{Tok, tok_of, toks, fresh, both};
+ghost use Rattle.sb_macro.specs.Tokens.{Tok, tok_of, toks, fresh, all_names};
 
 use crate::stored::holds;
 use sb_base::Name;
@@ -44,8 +44,8 @@ pub fn pieces(alloc: Global, list: &[Marked]) -> Result<Vec<PpToken>, AllocError
 }
 
 /// Both lists of names, each name of the second only where the first lacks it.
-pub fn both(alloc: Global, names: &[Name], more: &[Name]) -> Result<Vec<Name>, AllocError>
-    ensures { IfOk result (λ all. all.items ≡ both names.now more.now) }
+pub fn all_names(alloc: Global, names: &[Name], more: &[Name]) -> Result<Vec<Name>, AllocError>
+    ensures { IfOk result (λ all. all.items ≡ all_names names.now more.now) }
 {
     let mut all = Vec::from_slice(alloc, names)?;
     for name in more {

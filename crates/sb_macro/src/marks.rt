@@ -5,7 +5,7 @@ ghost use Rattle.sb_macro.specs.Marks.{is_hash, mark_of, mark_of_text};
 use sb_base::{Name, Names};
 
 /// What a spelling means to macros (C99 6.4.6, 6.10.3).
-#[derive(Clone, Copy, Debug, PartialEq, Eq)]
+#[derive(Clone, Copy, PartialEq, Eq)]
 pub enum Mark {
     /// `(`
     Open,

@@ -1,10 +1,10 @@
 //! What stands in place of a macro's name.
 ghost use Rattle.std.specs.Prelude.{◌≡◌, ◌++◌, IfOk, OnOk};
 ghost use Rattle.sb_macro.specs.Macros.{macro_of};
-ghost use Rattle.sb_macro.specs.Replacement.{placed, moved, argument, standing, led, replacement};
+ghost use Rattle.sb_macro.specs.Replacement.{part_token, argument_token, argument, standing, with_lead, replacement};
 ghost use Rattle.sb_macro.specs.Tokens.{Tok, tok_of, toks, fulls_of};
 
-use crate::marked::{Marked, Tokens, both};
+use crate::marked::{Marked, Tokens, all_names};
 use crate::stored::{Part, Stored};
 use sb_base::{Name, Place};
 use sb_lex::PpToken;
@@ -19,8 +19,8 @@ struct Spot<'a> {
 }
 
 /// A piece of a replacement list.
-fn placed(alloc: Global, spot: &Spot, part: Part) -> Result<Marked, AllocError>
-    ensures { IfOk result (λ m. tok_of m ≡ placed spot.now.place spot.now.hidden.now part) }
+fn part_token(alloc: Global, spot: &Spot, part: Part) -> Result<Marked, AllocError>
+    ensures { IfOk result (λ m. tok_of m ≡ part_token spot.now.place spot.now.hidden.now part) }
 {
     let hidden = Vec::from_slice(alloc, spot.hidden)?;
     Ok(Marked {
@@ -36,10 +36,15 @@ fn placed(alloc: Global, spot: &Spot, part: Part) -> Result<Marked, AllocError>
 }
 
 /// A token of an argument.
-fn moved(alloc: Global, spot: &Spot, spaced: bool, marked: &Marked) -> Result<Marked, AllocError>
-    ensures { IfOk result (λ m. tok_of m ≡ moved spot.now.place spot.now.hidden.now spaced (tok_of marked.now)) }
+fn argument_token(
+    alloc: Global,
+    spot: &Spot,
+    spaced: bool,
+    marked: &Marked,
+) -> Result<Marked, AllocError>
+    ensures { IfOk result (λ m. tok_of m ≡ argument_token spot.now.place spot.now.hidden.now spaced (tok_of marked.now)) }
 {
-    let hidden = both(alloc, marked.hidden.as_slice(), spot.hidden)?;
+    let hidden = all_names(alloc, marked.hidden.as_slice(), spot.hidden)?;
     Ok(Marked {
         token: PpToken {
             kind: marked.token.kind,
@@ -65,9 +70,9 @@ fn add_argument(
     let Some((lead, others)) = full.split_first() else {
         return Ok(());
     };
-    tokens.push_back(moved(alloc, spot, spaced, lead)?)?;
+    tokens.push_back(argument_token(alloc, spot, spaced, lead)?)?;
     for marked in others {
-        tokens.push_back(moved(alloc, spot, marked.token.spaced, marked)?)?;
+        tokens.push_back(argument_token(alloc, spot, marked.token.spaced, marked)?)?;
     }
     Ok(())
 }
@@ -84,7 +89,7 @@ fn add_part(
     ensures { OnOk result (toks tokens.new.items ≡ toks tokens.old.items ++ standing (macro_of stored.now) (fulls_of fulls.now) spot.now.place spot.now.hidden.now part) }
 {
     let Some(number) = stored.param(part.text) else {
-        tokens.push_back(placed(alloc, spot, part)?)?;
+        tokens.push_back(part_token(alloc, spot, part)?)?;
         return Ok(());
     };
     match fulls.get(number) {
@@ -94,8 +99,8 @@ fn add_part(
 }
 
 /// The tokens, the first of which stands as the replaced name did.
-fn led(tokens: Tokens, first: bool, spaced: bool) -> Result<Tokens, AllocError>
-    ensures { IfOk result (λ all. toks all.items ≡ led first spaced (toks tokens.items)) }
+fn with_lead(tokens: Tokens, first: bool, spaced: bool) -> Result<Tokens, AllocError>
+    ensures { IfOk result (λ all. toks all.items ≡ with_lead first spaced (toks tokens.items)) }
 {
     let mut tokens = tokens;
     if let Some(mut front) = tokens.pop_front() {
@@ -125,7 +130,7 @@ pub fn replacement(
     for part in &stored.body {
         add_part(alloc, stored, fulls, &spot, *part, &mut tokens)?;
     }
-    led(tokens, name.token.first, name.token.spaced)
+    with_lead(tokens, name.token.first, name.token.spaced)
 }
 
 /// Puts the tokens before those that are still to be read.

@@ -9,7 +9,7 @@ use sb_base::{Name, PpKind};
 ///
 /// `spaced` says that white space stands before it. It is false for the first piece of a list, since the white space
 /// around a replacement list is no part of it.
-#[derive(Clone, Copy, Debug, PartialEq, Eq)]
+#[derive(Clone, Copy, PartialEq, Eq)]
 pub struct Part {
     pub kind: PpKind,
     pub text: Name,

@@ -62,7 +62,7 @@ fn addition(
     };
     let parsed = definition(alloc, names, line);
     match macro_at(macros, line) {
-        Some(other) => compared(parsed, other, name.place),
+        Some(other) => addition_beside(parsed, other, name.place),
         None => match parsed {
             Ok(stored) => Ok(Some(stored)),
             Err(halt) => Err(halt),
@@ -71,7 +71,7 @@ fn addition(
 }
 
 /// What is left to add where this macro has the name already, which stands at `place`.
-fn compared(
+fn addition_beside(
     parsed: Result<Stored, Halt>,
     other: &Stored,
     place: Place,

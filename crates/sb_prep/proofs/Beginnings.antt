@@ -9,8 +9,8 @@ use Rattle.sb_base.specs.declared.tokens.PpKind.TheVariants as kind
 use Rattle.sb_base.specs.declared.tokens.Token.{Token}
 use Rattle.sb_lex.specs.declared.piece.PpToken.{PpToken}
 use Rattle.sb_lex.specs.Lexing.{HasRoom}
-use Rattle.sb_prep.specs.Lines.{spelling}
-use Rattle.sb_prep.specs.Ending.{Ending, Ended, Refused}
+use Rattle.sb_directive.specs.Lines.{spelling}
+use Rattle.sb_directive.specs.Ending.{Ending, Ended, Refused}
 use Rattle.sb_prep.specs.Tokens.{is_text_kind, texts_in_front, HasValueOf, NameBytes, Converts, IsNoTokens}
 use Rattle.sb_prep.specs.Tokens.Converts.{ended, token, no_value, literals, no_bytes, no_room}
 use Rattle.sb_prep.specs.Converting.{IsBadLiteral, Begins}

@@ -5,10 +5,10 @@ use Rattle.sb_base.specs.Names.{IsDistinct}
 use Rattle.sb_base.specs.declared.tokens.Token.{Token}
 use Rattle.sb_lex.specs.Lexing.{PiecesOf, End}
 use Rattle.sb_lex.specs.declared.piece.PpToken.{PpToken}
-use Rattle.sb_prep.specs.declared.directive.Branch.{Branch}
-use Rattle.sb_prep.specs.Conditions.{HasTruth, HasNoTruth}
-use Rattle.sb_prep.specs.Ending.{Ending}
-use Rattle.sb_prep.specs.Rules.{Table, IsExpansion, HasStopped, IsDefinition, IsNoDefinition}
+use Rattle.sb_directive.specs.declared.directive.Branch.{Branch}
+use Rattle.sb_directive.specs.Conditions.{HasTruth, HasNoTruth}
+use Rattle.sb_directive.specs.Ending.{Ending}
+use Rattle.sb_directive.specs.Rules.{Table, IsExpansion, HasStopped, IsDefinition, IsNoDefinition}
 use Rattle.sb_prep.specs.Tokens.{Converts}
 use Rattle.sb_prep.specs.Unit.{Progress, HasPart, After, GoesOn, Enters, Stops}
 

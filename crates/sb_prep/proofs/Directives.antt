@@ -5,19 +5,20 @@ use Rattle.sb_base.specs.declared.refusals.Place.{Place}
 use Rattle.sb_base.specs.declared.refusals.Stop.{Stop}
 use Rattle.sb_base.specs.declared.refusals.Stop.TheVariants as stop
 use Rattle.sb_lex.specs.declared.piece.PpToken.{PpToken}
-use Rattle.sb_prep.specs.declared.asks.Asks.{Asks}
-use Rattle.sb_prep.specs.declared.asks.Asks.TheVariants as asked
-use Rattle.sb_prep.specs.declared.directive.Branch.{Branch}
+use Rattle.sb_directive.specs.declared.asks.Asks.{Asks}
+use Rattle.sb_directive.specs.declared.asks.Asks.TheVariants as asked
+use Rattle.sb_directive.specs.declared.directive.Branch.{Branch}
+use Rattle.sb_directive.specs.Asking.{asks, branches_after, branches_if}
+use Rattle.sb_directive.specs.Conditions.{HasTruth, HasNoTruth}
+use Rattle.sb_directive.specs.Lines.{place_of}
+use Rattle.sb_directive.specs.Rules.{IsDefinition, IsNoDefinition, undefined}
+use Rattle.sb_directive.specs.Stopping.{IsStop, IsAmong}
 use Rattle.sb_prep.specs.declared.fault.UnitFault.{UnitFault}
 use Rattle.sb_prep.specs.declared.fault.UnitFault.TheVariants as fault
 use Rattle.sb_prep.specs.declared.including.Included.{Included}
-use Rattle.sb_prep.specs.Asking.{asks, branches_after, branches_if}
-use Rattle.sb_prep.specs.Conditions.{HasTruth, HasNoTruth}
-use Rattle.sb_prep.specs.Lines.{place_of}
 use Rattle.sb_prep.specs.Reading.{IsHalted, IsCarried, IsIncluded, IsBarred, IsDirective, IsNoDirective}
-use Rattle.sb_prep.specs.Rules.{IsDefinition, IsNoDefinition, undefined}
 use Rattle.sb_prep.specs.Standing.{Standing, moved_to}
-use Rattle.sb_prep.specs.Stopping.{IsStop, IsFault, HasCause, IsAmong, AreIn, fault_of_stop}
+use Rattle.sb_prep.specs.Stopping.{IsFault, HasCause, AreIn, fault_of_stop}
 use Rattle.sb_prep.specs.Unit.{with_names, with_table, with_once, Carries, IsStuck}
 use Rattle.sb_prep.proofs.Held.{among_in, drop_in}
 use Rattle.sb_prep.proofs.Requests.{word_in, line_refused_in, define_has_pieces}

@@ -9,7 +9,8 @@ use Rattle.sb_lex.specs.declared.piece.PpToken.{PpToken}
 use Rattle.sb_lex.specs.declared.spot.Spot.{Spot}
 use Rattle.sb_lex.specs.declared.item.Line.{Line}
 use Rattle.sb_lex.specs.Lexing.{Lexes, End}
-use Rattle.sb_prep.specs.Stopping.{IsAmong, IsIn, AreIn, IsKept}
+use Rattle.sb_directive.specs.Stopping.{IsAmong}
+use Rattle.sb_prep.specs.Stopping.{IsIn, AreIn, IsKept}
 
 abbrev pub IsPieceIn : ℕ → PpToken → Type 0
 IsPieceIn count t = t.place.file < count

@@ -12,14 +12,15 @@ use Rattle.sb_base.specs.declared.refusals.Stop.TheVariants as stop
 use Rattle.sb_lex.specs.Faults.{IsNoPieces}
 use Rattle.sb_lex.specs.Lexing.{PiecesOf, End, Whole, Stopped}
 use Rattle.sb_lex.specs.declared.piece.PpToken.{PpToken}
-use Rattle.sb_prep.specs.declared.headers.Source.{Source as SourceText}
+use Rattle.sb_directive.specs.declared.headers.Source.{Source as SourceText}
+use Rattle.sb_directive.specs.Headers.{source_of, file_name}
+use Rattle.sb_directive.specs.Sources.{header_seen, source_seen, source_by_text}
+use Rattle.sb_directive.specs.Stopping.{IsStop, IsAmong}
 use Rattle.sb_prep.specs.declared.including.Included.{Included}
 use Rattle.sb_prep.specs.declared.including.SoughtHeader.{SoughtHeader}
-use Rattle.sb_prep.specs.Headers.{source_of, file_name}
 use Rattle.sb_prep.specs.Reading.{IsHeader, IsOpen, IsShut, IsIncluded, IsBarred}
-use Rattle.sb_prep.specs.Sources.{header_seen, source_seen, source_by_text}
 use Rattle.sb_prep.specs.Standing.{Standing, moved_to}
-use Rattle.sb_prep.specs.Stopping.{IsStop, IsFault, IsAmong, IsIn, AreIn, fault_of_stop}
+use Rattle.sb_prep.specs.Stopping.{IsFault, IsIn, AreIn, fault_of_stop}
 use Rattle.sb_prep.specs.Unit.{Progress, with_file, with_names, Unnamed, Seeks, IsContent, IsSought, IsNew, Passed, Barred, Opened, Includes, deepest}
 use Rattle.sb_prep.proofs.Held.{among_in, pieces_in, kept_with, kept_within}
 

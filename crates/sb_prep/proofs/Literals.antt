@@ -6,7 +6,7 @@ use Rattle.sb_base.specs.declared.refusals.Stop.{Stop}
 use Rattle.sb_base.specs.declared.refusals.Stop.TheVariants.{Refused}
 use Rattle.sb_lex.specs.declared.piece.PpToken.{PpToken}
 use Rattle.sb_lex.specs.Values.{IsText}
-use Rattle.sb_prep.specs.Lines.{spelling}
+use Rattle.sb_directive.specs.Lines.{spelling}
 use Rattle.sb_prep.specs.Tokens.{NameBytes}
 use Rattle.sb_prep.specs.Tokens.NameBytes.{none, one}
 use Rattle.sb_prep.specs.Converting.{IsBadLiteral}

@@ -4,15 +4,15 @@ use Rattle.sb_base.specs.Found.{Found, Missing, TooBig, Whole as Present}
 use Rattle.sb_base.specs.Names.{IsDistinct}
 use Rattle.sb_base.specs.declared.refusals.Place.{Place}
 use Rattle.sb_lex.specs.declared.piece.PpToken.{PpToken}
-use Rattle.sb_prep.specs.declared.asks.Asks.{Asks}
-use Rattle.sb_prep.specs.declared.asks.Asks.TheVariants as asked
-use Rattle.sb_prep.specs.declared.directive.Branch.{Branch}
-use Rattle.sb_prep.specs.Asking.{asks, branches_after, branches_if}
-use Rattle.sb_prep.specs.Headers.{Source, BuiltIn, File, file_name, source_of}
-use Rattle.sb_prep.specs.Rules.{Table, undefined}
+use Rattle.sb_directive.specs.declared.asks.Asks.{Asks}
+use Rattle.sb_directive.specs.declared.asks.Asks.TheVariants as asked
+use Rattle.sb_directive.specs.declared.directive.Branch.{Branch}
+use Rattle.sb_directive.specs.Asking.{asks, branches_after, branches_if}
+use Rattle.sb_directive.specs.Headers.{Source, BuiltIn, File, file_name, source_of}
+use Rattle.sb_directive.specs.Rules.{Table, undefined}
+use Rattle.sb_directive.proofs.DistinctTexts.{distinct_with}
 use Rattle.sb_prep.specs.Unit.{Progress, with_read, with_file, with_names, with_table, Sought, Named, Seeks, IsContent, IsSought, Inclusion, Barred, Includes, Carries, IsStuck, Part, After, Stops}
 use Rattle.sb_prep.proofs.Determined.{AreDistinct, IsDistinctAfter, HaveOneAnswer, AreSettled}
-use Rattle.sb_prep.proofs.DistinctTexts.{distinct_with}
 use Rattle.sb_prep.proofs.OneOutcome.{one_found}
 
 apart : (a : Asks) (bs x y : List Branch) (holds : Bool) → branches_after a bs ≡ Some x → branches_if a holds bs ≡ Some y → ⊥

@@ -11,9 +11,9 @@ use Rattle.sb_lex.specs.declared.piece.PpToken.{PpToken}
 use Rattle.sb_lex.specs.Lexing.{HasRoom}
 use Rattle.sb_lex.specs.Values.{IsCharacter, IsText}
 use Rattle.sb_lex.proofs.Literals.{one_text}
-use Rattle.sb_prep.proofs.DistinctTexts.{distinct_with}
-use Rattle.sb_prep.specs.Lines.{spelling}
-use Rattle.sb_prep.specs.Ending.{Ending, Ended, Refused}
+use Rattle.sb_directive.proofs.DistinctTexts.{distinct_with}
+use Rattle.sb_directive.specs.Lines.{spelling}
+use Rattle.sb_directive.specs.Ending.{Ending, Ended, Refused}
 use Rattle.sb_prep.specs.Tokens.{is_text_kind, texts_in_front, HasValueOf, NameBytes, Converts, HasOneConversion}
 use Rattle.sb_prep.specs.Tokens.NameBytes.{none, one}
 use Rattle.sb_prep.specs.Tokens.Converts.{ended, token, no_value, literals, no_bytes, no_room}

@@ -3,8 +3,8 @@ use Rattle.std.proofs.Common.{◌≡◌, ℕ, suc, List, [], length, Option, Som
 use Rattle.sb_base.specs.Found.{Found, Missing, TooBig, Whole as Present, IsFound}
 use Rattle.sb_base.specs.declared.refusals.Place.{Place}
 use Rattle.sb_lex.specs.declared.piece.PpToken.{PpToken}
-use Rattle.sb_prep.specs.declared.directive.Branch.{Branch}
-use Rattle.sb_prep.specs.Ending.{Ending, Refused}
+use Rattle.sb_directive.specs.declared.directive.Branch.{Branch}
+use Rattle.sb_directive.specs.Ending.{Ending, Refused}
 use Rattle.sb_prep.specs.Unit.{Progress, HasPart, After, Leaves}
 use Rattle.sb_prep.proofs.Determined.{AreDistinct, HaveOneAnswer}
 

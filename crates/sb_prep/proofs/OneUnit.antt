@@ -7,14 +7,15 @@ use Rattle.sb_base.specs.Names.{IsDistinct, with_text}
 use Rattle.sb_base.specs.declared.tokens.Token.{Token}
 use Rattle.sb_lex.specs.Lexing.{PiecesOf, End}
 use Rattle.sb_lex.specs.declared.piece.PpToken.{PpToken}
+use Rattle.sb_directive.specs.Ending.{Ending, Refused}
+use Rattle.sb_directive.proofs.DistinctTexts.{distinct_with}
 use Rattle.sb_prep.specs.declared.fault.UnitFault.{UnitFault}
 use Rattle.sb_prep.specs.declared.fault.UnitFault.TheVariants as fault
-use Rattle.sb_prep.specs.Ending.{Ending, Refused}
 use Rattle.sb_prep.specs.Outcomes.{IsOnlyOutcome}
 use Rattle.sb_prep.specs.Reading.{IsUnitOf}
 use Rattle.sb_prep.specs.Unit.{file_start, beginning, IsUnit}
 use Rattle.sb_prep.proofs.Determined.{AreDistinct, HaveOneAnswer}
-use Rattle.sb_prep.proofs.DistinctTexts.{distinct_with, reading_kept, conversion_kept}
+use Rattle.sb_prep.proofs.DistinctTexts.{reading_kept, conversion_kept}
 use Rattle.sb_prep.proofs.OneAnswer.{parts_have_one_answer}
 use Rattle.sb_prep.proofs.OneOutcome.{one_found, keeps, one_leaving}
 use Rattle.sb_prep.proofs.Settled.{are_settled}

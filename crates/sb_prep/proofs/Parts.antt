@@ -7,17 +7,19 @@ use Rattle.sb_base.specs.declared.refusals.Place.{Place}
 use Rattle.sb_base.specs.declared.refusals.Stop.{Stop}
 use Rattle.sb_base.specs.declared.refusals.Stop.TheVariants as stop
 use Rattle.sb_lex.specs.declared.piece.PpToken.{PpToken}
-use Rattle.sb_prep.specs.declared.directive.Branch.{Branch}
+use Rattle.sb_directive.specs.declared.directive.Branch.{Branch}
+use Rattle.sb_directive.specs.Branches.{is_read}
+use Rattle.sb_directive.specs.Lines.{begins_directive}
+use Rattle.sb_directive.specs.Rules.{HasStopped}
+use Rattle.sb_directive.specs.Stopping.{IsStop, IsAmong}
+use Rattle.sb_directive.specs.Limits.{most_tokens}
 use Rattle.sb_prep.specs.declared.fault.UnitFault.{UnitFault}
 use Rattle.sb_prep.specs.declared.fault.UnitFault.TheVariants as fault
 use Rattle.sb_prep.specs.declared.including.Included.{Included}
-use Rattle.sb_prep.specs.Branches.{is_read}
-use Rattle.sb_prep.specs.Lines.{begins_directive}
 use Rattle.sb_prep.specs.Reading.{IsDirective, IsNoDirective, IsGoing, IsLate, IsReadPart, IsPartRefused}
-use Rattle.sb_prep.specs.Rules.{HasStopped}
 use Rattle.sb_prep.specs.Standing.{Standing, moved_to, Gives}
-use Rattle.sb_prep.specs.Stopping.{IsStop, IsFault, IsAmong, AreIn, fault_of_stop}
-use Rattle.sb_prep.specs.Unit.{with_read, most_read, most_tokens, IsFront, Part, GoesOn}
+use Rattle.sb_prep.specs.Stopping.{IsFault, AreIn, fault_of_stop}
+use Rattle.sb_prep.specs.Unit.{with_read, most_read, IsFront, Part, GoesOn}
 use Rattle.sb_prep.proofs.Held.{IsPieceIn, among_in, take_in}
 
 module _ (held : Option (List ℕ → Option (List ℕ))) (depth file : ℕ) (bs : List Branch) (old : Standing) (ps : List PpToken) (size : ℕ) (front : IsFront old.at ps size) where

@@ -9,15 +9,16 @@ use Rattle.sb_base.specs.declared.refusals.Place.{Place}
 use Rattle.sb_base.specs.declared.refusals.Stop.{Stop}
 use Rattle.sb_base.specs.declared.refusals.Stop.TheVariants as stop
 use Rattle.sb_lex.specs.declared.piece.PpToken.{PpToken}
-use Rattle.sb_prep.specs.declared.directive.Branch.{Branch}
+use Rattle.sb_directive.specs.declared.directive.Branch.{Branch}
+use Rattle.sb_directive.specs.Ending.{Ended, Refused}
+use Rattle.sb_directive.specs.Lines.{end_of}
+use Rattle.sb_directive.specs.Stopping.{IsStop}
 use Rattle.sb_prep.specs.declared.fault.UnitFault.{UnitFault}
 use Rattle.sb_prep.specs.declared.fault.UnitFault.TheVariants as fault
 use Rattle.sb_prep.specs.declared.including.Included.{Included}
-use Rattle.sb_prep.specs.Ending.{Ended, Refused}
-use Rattle.sb_prep.specs.Lines.{end_of}
 use Rattle.sb_prep.specs.Reading.{IsGoing, IsEntering, IsPartRefused, IsUnclosed, IsFileRead, IsFileRefused, Reaches}
 use Rattle.sb_prep.specs.Standing.{Standing}
-use Rattle.sb_prep.specs.Stopping.{IsStop, IsFault, IsKept, IsIn, AreIn, fault_of_stop}
+use Rattle.sb_prep.specs.Stopping.{IsFault, IsKept, IsIn, AreIn, fault_of_stop}
 use Rattle.sb_prep.specs.Unit.{file_start, HasPart, Leaves}
 use Rattle.sb_prep.proofs.Held.{IsPieceIn, drop_in, wider_in, kept_same, kept_within, kept_on}
 

@@ -3,15 +3,15 @@ use Rattle.std.proofs.Common.{◌≡◌, ℕ, ◌<◌, Bool, true, false, not, L
 use Rattle.std.proofs.lemmas.List.Elements.{All-head, All-tail}
 use Rattle.sb_base.specs.declared.refusals.Place.{Place}
 use Rattle.sb_lex.specs.declared.piece.PpToken.{PpToken}
-use Rattle.sb_prep.specs.declared.asks.Asks.{Asks}
-use Rattle.sb_prep.specs.declared.asks.Asks.TheVariants as asked
-use Rattle.sb_prep.specs.declared.directive.Branch.{Branch}
-use Rattle.sb_prep.specs.declared.directive.Directive.{Directive}
-use Rattle.sb_prep.specs.declared.directive.Directive.TheVariants.{Null, If, Ifdef, Ifndef, Elif, Else, Endif, Include, Define, Undef, Line, Error, Pragma, Unknown}
-use Rattle.sb_prep.specs.Asking.{asks, asks_of, on_word, on_branch, on_end, on_define, on_include, on_pragma}
-use Rattle.sb_prep.specs.Branches.{is_read, opened, skipped, may_read, turned, last_group}
-use Rattle.sb_prep.specs.Lines.{is_word, is_spelled, place_of, directive_of}
-use Rattle.sb_prep.specs.Rules.{Table, is_macro}
+use Rattle.sb_directive.specs.declared.asks.Asks.{Asks}
+use Rattle.sb_directive.specs.declared.asks.Asks.TheVariants as asked
+use Rattle.sb_directive.specs.declared.directive.Branch.{Branch}
+use Rattle.sb_directive.specs.declared.directive.Directive.{Directive}
+use Rattle.sb_directive.specs.declared.directive.Directive.TheVariants.{Null, If, Ifdef, Ifndef, Elif, Else, Endif, Include, Define, Undef, Line, Error, Pragma, Unknown}
+use Rattle.sb_directive.specs.Asking.{asks, asks_of, on_word, on_branch, on_end, on_define, on_include, on_pragma}
+use Rattle.sb_directive.specs.Branches.{is_read, new_branch, skipped_branch, may_read, next_group, last_group}
+use Rattle.sb_directive.specs.Lines.{is_word, is_spelled, place_of, directive_of}
+use Rattle.sb_directive.specs.Rules.{Table, is_macro}
 use Rattle.sb_prep.specs.Stopping.{IsIn, AreIn}
 use Rattle.sb_prep.proofs.Held.{IsPieceIn, drop_in}
 
@@ -80,10 +80,10 @@ module _ (count number : ℕ) (place at : Place) (at_in : IsIn count at) where
 
     refused_in : (directive : Directive) → asks_of texts table bs at rest directive ≡ asked.Refused number place → IsIn count place
     refused_in Null e = absurd (cc)
-    refused_in If e = where_read asked.OpensIf (asked.Opens skipped) (λ f. absurd (cc)) (λ f. cc) e
-    refused_in Ifdef e = where_read (on_word at (λ t. asked.Opens (opened (is_macro table t.text))) rest) (asked.Opens skipped) (word_refused (λ t. asked.Opens (opened (is_macro table t.text))) rest held (λ t f. cc)) (λ f. cc) e
-    refused_in Ifndef e = where_read (on_word at (λ t. asked.Opens (opened (not (is_macro table t.text)))) rest) (asked.Opens skipped) (word_refused (λ t. asked.Opens (opened (not (is_macro table t.text)))) rest held (λ t f. cc)) (λ f. cc) e
-    refused_in Elif e = branch_refused (λ b. if may_read b then asked.TurnsIf b else asked.Becomes (turned b false)) bs (λ b f. if_case (asked.Refused number place) (may_read b) (asked.TurnsIf b) (asked.Becomes (turned b false)) (λ s. cc) (λ s. cc) f) e
+    refused_in If e = where_read asked.OpensIf (asked.Opens skipped_branch) (λ f. absurd (cc)) (λ f. cc) e
+    refused_in Ifdef e = where_read (on_word at (λ t. asked.Opens (new_branch (is_macro table t.text))) rest) (asked.Opens skipped_branch) (word_refused (λ t. asked.Opens (new_branch (is_macro table t.text))) rest held (λ t f. cc)) (λ f. cc) e
+    refused_in Ifndef e = where_read (on_word at (λ t. asked.Opens (new_branch (not (is_macro table t.text)))) rest) (asked.Opens skipped_branch) (word_refused (λ t. asked.Opens (new_branch (not (is_macro table t.text)))) rest held (λ t f. cc)) (λ f. cc) e
+    refused_in Elif e = branch_refused (λ b. if may_read b then asked.TurnsIf b else asked.Becomes (next_group b false)) bs (λ b f. if_case (asked.Refused number place) (may_read b) (asked.TurnsIf b) (asked.Becomes (next_group b false)) (λ s. cc) (λ s. cc) f) e
     refused_in Else e = branch_refused (λ b. asked.Becomes (last_group b)) bs (λ b f. cc) e
     refused_in Endif e = end_refused bs e
     refused_in Include e = where_read (on_include at rest) asked.Nothing (include_refused rest) (λ f. cc) e
@@ -142,10 +142,10 @@ module _ (target : Asks) (needs : NeedsPieces target) where
 
     pieces_behind : (directive : Directive) → asks_of texts table bs at rest directive ≡ target → 0 < length rest
     pieces_behind Null e = absurd (needs.not_nothing e)
-    pieces_behind If e = some_where_read asked.OpensIf (asked.Opens skipped) (λ f. absurd (needs.no_opening_if f)) (needs.no_opening skipped) e
-    pieces_behind Ifdef e = some_where_read (on_word at (λ t. asked.Opens (opened (is_macro table t.text))) rest) (asked.Opens skipped) (word_some (λ t. asked.Opens (opened (is_macro table t.text))) at rest) (needs.no_opening skipped) e
-    pieces_behind Ifndef e = some_where_read (on_word at (λ t. asked.Opens (opened (not (is_macro table t.text)))) rest) (asked.Opens skipped) (word_some (λ t. asked.Opens (opened (not (is_macro table t.text)))) at rest) (needs.no_opening skipped) e
-    pieces_behind Elif e = absurd (no_branch (λ b. if may_read b then asked.TurnsIf b else asked.Becomes (turned b false)) at bs (λ b f. if_case target (may_read b) (asked.TurnsIf b) (asked.Becomes (turned b false)) (needs.no_turn b) (needs.no_change (turned b false)) f) e)
+    pieces_behind If e = some_where_read asked.OpensIf (asked.Opens skipped_branch) (λ f. absurd (needs.no_opening_if f)) (needs.no_opening skipped_branch) e
+    pieces_behind Ifdef e = some_where_read (on_word at (λ t. asked.Opens (new_branch (is_macro table t.text))) rest) (asked.Opens skipped_branch) (word_some (λ t. asked.Opens (new_branch (is_macro table t.text))) at rest) (needs.no_opening skipped_branch) e
+    pieces_behind Ifndef e = some_where_read (on_word at (λ t. asked.Opens (new_branch (not (is_macro table t.text)))) rest) (asked.Opens skipped_branch) (word_some (λ t. asked.Opens (new_branch (not (is_macro table t.text)))) at rest) (needs.no_opening skipped_branch) e
+    pieces_behind Elif e = absurd (no_branch (λ b. if may_read b then asked.TurnsIf b else asked.Becomes (next_group b false)) at bs (λ b f. if_case target (may_read b) (asked.TurnsIf b) (asked.Becomes (next_group b false)) (needs.no_turn b) (needs.no_change (next_group b false)) f) e)
     pieces_behind Else e = absurd (no_branch (λ b. asked.Becomes (last_group b)) at bs (λ b f. needs.no_change (last_group b) f) e)
     pieces_behind Endif e = absurd (no_closing at bs e)
     pieces_behind Include e = some_where_read (on_include at rest) asked.Nothing (include_some at rest) needs.not_nothing e

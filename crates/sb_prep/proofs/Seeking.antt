@@ -5,14 +5,15 @@ use Rattle.sb_base.specs.declared.refusals.Place.{Place}
 use Rattle.sb_base.specs.declared.refusals.Stop.{Stop}
 use Rattle.sb_base.specs.declared.refusals.Stop.TheVariants as stop
 use Rattle.sb_lex.specs.declared.piece.PpToken.{PpToken}
-use Rattle.sb_prep.specs.declared.headers.HeaderName.{HeaderName}
+use Rattle.sb_directive.specs.declared.headers.HeaderName.{HeaderName}
+use Rattle.sb_directive.specs.Headers.{is_header, header_of}
+use Rattle.sb_directive.specs.Rules.{Table, IsExpansion, HasStopped}
+use Rattle.sb_directive.specs.Sources.{header_seen}
+use Rattle.sb_directive.specs.Stopping.{IsStop, IsAmong}
+use Rattle.sb_directive.specs.Limits.{most_tokens}
 use Rattle.sb_prep.specs.declared.including.SoughtHeader.{SoughtHeader}
-use Rattle.sb_prep.specs.Headers.{is_header, header_of}
 use Rattle.sb_prep.specs.Reading.{IsFoundAt, IsSeekResult}
-use Rattle.sb_prep.specs.Rules.{Table, IsExpansion, HasStopped}
-use Rattle.sb_prep.specs.Sources.{header_seen}
-use Rattle.sb_prep.specs.Stopping.{IsStop, IsAmong}
-use Rattle.sb_prep.specs.Unit.{Seeks, most_tokens}
+use Rattle.sb_prep.specs.Unit.{Seeks}
 
 head_among : (t : PpToken) (ts : List PpToken) (place : Place) → place ≡ t.place → IsAmong (t ∷ ts) place
 head_among t ts place at = record { piece = t; contained = (0, omega arith, refl); here = sym at }

@@ -1,11 +1,12 @@
 -- what macros, conditions, the reading of a text and the conversion of pieces give is determined, and they keep texts distinct
 use Rattle.std.proofs.Common.{ℕ, sym}
 use Rattle.sb_lex.proofs.OneReading.{one_reading}
-use Rattle.sb_prep.proofs.ConditionsOnce as conditions
+use Rattle.sb_directive.proofs.ConditionsOnce as conditions
+use Rattle.sb_directive.proofs.DistinctTexts.{truth_kept}
+use Rattle.sb_directive.proofs.RulesOnce as rules
 use Rattle.sb_prep.proofs.Determined.{AreSettled}
-use Rattle.sb_prep.proofs.DistinctTexts.{truth_kept, reading_kept}
+use Rattle.sb_prep.proofs.DistinctTexts.{reading_kept}
 use Rattle.sb_prep.proofs.OneConversion.{one_conversion}
-use Rattle.sb_prep.proofs.RulesOnce as rules
 
 pub are_settled : (limit : ℕ) → AreSettled limit
 are_settled limit =

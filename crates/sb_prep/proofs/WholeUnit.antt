@@ -13,13 +13,14 @@ use Rattle.sb_base.specs.declared.tokens.Token.{Token}
 use Rattle.sb_lex.specs.Faults.{IsNoPieces}
 use Rattle.sb_lex.specs.Lexing.{PiecesOf, End, Whole, Stopped}
 use Rattle.sb_lex.specs.declared.piece.PpToken.{PpToken}
+use Rattle.sb_directive.specs.Ending.{Ending, Ended, Refused}
+use Rattle.sb_directive.specs.Lines.{end_of}
+use Rattle.sb_directive.specs.Stopping.{IsStop}
 use Rattle.sb_prep.specs.declared.fault.UnitFault.{UnitFault}
 use Rattle.sb_prep.specs.declared.fault.UnitFault.TheVariants as fault
-use Rattle.sb_prep.specs.Ending.{Ending, Ended, Refused}
-use Rattle.sb_prep.specs.Lines.{end_of}
 use Rattle.sb_prep.specs.Reading.{IsFileRead, IsFileRefused, HasPieces, HasNoPieces, IsUnitRefused}
 use Rattle.sb_prep.specs.Standing.{Standing, moved_to, start}
-use Rattle.sb_prep.specs.Stopping.{IsStop, IsFault, IsKept, IsIn, AreIn, AreTokensIn, fault_of_stop}
+use Rattle.sb_prep.specs.Stopping.{IsFault, IsKept, IsIn, AreIn, AreTokensIn, fault_of_stop}
 use Rattle.sb_prep.specs.Tokens.{is_text_kind, Converts, IsNoTokens, texts_in_front}
 use Rattle.sb_prep.specs.Unit.{Progress, with_file, with_names, beginning, file_start, Leaves, IsUnit}
 use Rattle.sb_prep.proofs.Held.{IsPieceIn, drop_in, pieces_in, kept_with}

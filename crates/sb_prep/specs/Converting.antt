@@ -6,8 +6,8 @@ use Rattle.sb_base.specs.declared.refusals.Stop.TheVariants as stop
 use Rattle.sb_base.specs.declared.tokens.Token.{Token}
 use Rattle.sb_lex.specs.declared.piece.PpToken.{PpToken}
 use Rattle.sb_lex.specs.Values.{IsText}
-use Rattle.sb_prep.specs.Lines.{spelling}
-use Rattle.sb_prep.specs.Ending.{Ending}
+use Rattle.sb_directive.specs.Lines.{spelling}
+use Rattle.sb_directive.specs.Ending.{Ending}
 use Rattle.sb_prep.specs.Tokens.{NameBytes, Converts}
 
 -- a string literal that names no bytes, behind some that do

@@ -1,13 +1,3 @@
-pub mod Lines
-pub mod Branches
-pub mod Headers
-pub mod Rules
-pub mod Asking
-pub mod Limits
-pub mod Defined
-pub mod Preparing
-pub mod Judging
-pub mod Conditions
 pub mod Ending
 pub mod Tokens
 pub mod Converting
@@ -15,5 +5,4 @@ pub mod Unit
 pub mod Stopping
 pub mod Standing
 pub mod Reading
-pub mod Sources
 pub mod Outcomes

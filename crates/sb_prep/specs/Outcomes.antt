@@ -3,9 +3,9 @@ use Rattle.std.specs.Prelude.{◌≡◌, ℕ, List, Option, Some, Result, Ok, Er
 use Rattle.std.specs.declared.alloc.Global.{Global}
 use Rattle.std.specs.declared.vec.Vec.{Vec}
 use Rattle.sb_base.specs.declared.tokens.Token.{Token}
+use Rattle.sb_directive.specs.Ending.{Ending, Ended, Refused}
 use Rattle.sb_prep.specs.declared.fault.UnitFault.{UnitFault}
 use Rattle.sb_prep.specs.declared.fault.UnitFault.TheVariants as fault
-use Rattle.sb_prep.specs.Ending.{Ending, Ended, Refused}
 use Rattle.sb_prep.specs.Unit.{IsUnit}
 
 -- over a library that tells, a unit that has tokens has no others and is not refused, and one that is refused has none, and no other refusal

@@ -6,23 +6,24 @@ use Rattle.sb_base.specs.Found.{Found, Missing, TooBig, Whole as Present}
 use Rattle.sb_base.specs.declared.refusals.Place.{Place}
 use Rattle.sb_base.specs.declared.refusals.Stop.{Stop}
 use Rattle.sb_base.specs.declared.refusals.Stop.TheVariants as stop
-use Rattle.sb_lex.specs.declared.piece.PpToken.{PpToken}
 use Rattle.sb_base.specs.declared.tokens.Token.{Token}
+use Rattle.sb_lex.specs.declared.piece.PpToken.{PpToken}
 use Rattle.sb_lex.specs.Lexing.{PiecesOf, Whole, Stopped}
-use Rattle.sb_prep.specs.declared.asks.Asks.TheVariants as asked
-use Rattle.sb_prep.specs.declared.directive.Branch.{Branch}
-use Rattle.sb_prep.specs.declared.headers.HeaderName.{HeaderName}
+use Rattle.sb_directive.specs.declared.asks.Asks.TheVariants as asked
+use Rattle.sb_directive.specs.declared.directive.Branch.{Branch}
+use Rattle.sb_directive.specs.declared.headers.HeaderName.{HeaderName}
+use Rattle.sb_directive.specs.Asking.{asks}
+use Rattle.sb_directive.specs.Ending.{Ending, Ended, Refused}
+use Rattle.sb_directive.specs.Lines.{end_of}
+use Rattle.sb_directive.specs.Rules.{Table}
+use Rattle.sb_directive.specs.Sources.{header_seen}
+use Rattle.sb_directive.specs.Stopping.{IsStop, IsAmong}
 use Rattle.sb_prep.specs.declared.including.Included.{Included}
 use Rattle.sb_prep.specs.declared.including.SoughtHeader.{SoughtHeader}
 use Rattle.sb_prep.specs.declared.fault.UnitFault.{UnitFault}
 use Rattle.sb_prep.specs.declared.units.ReadPart.{ReadPart}
-use Rattle.sb_prep.specs.Asking.{asks}
-use Rattle.sb_prep.specs.Ending.{Ending, Ended, Refused}
-use Rattle.sb_prep.specs.Lines.{end_of}
-use Rattle.sb_prep.specs.Rules.{Table}
-use Rattle.sb_prep.specs.Sources.{header_seen}
 use Rattle.sb_prep.specs.Standing.{Standing}
-use Rattle.sb_prep.specs.Stopping.{IsStop, IsFault, IsKept, IsAmong, IsIn, AreIn}
+use Rattle.sb_prep.specs.Stopping.{IsFault, IsKept, IsIn, AreIn}
 use Rattle.sb_prep.specs.Unit.{Progress, Named, Unnamed, Seeks, Passed, Barred, Opened, Includes, deepest, Carries, IsStuck, GoesOn, Enters, Stops, HasPart, file_start, Leaves, IsUnit}
 
 -- the pieces behind `include` name a header, at the place of one of them

@@ -1,9 +1,10 @@
 -- how the reading of a unit stands
 use Rattle.std.specs.Prelude.{◌≡◌, ℕ, ◌+◌, ◌-◌, ◌≤◌, List, [], ◌++◌, length}
 use Rattle.sb_lex.specs.declared.piece.PpToken.{PpToken}
-use Rattle.sb_prep.specs.Rules.{IsExpansion}
+use Rattle.sb_directive.specs.Rules.{IsExpansion}
+use Rattle.sb_directive.specs.Limits.{most_tokens}
 use Rattle.sb_prep.specs.Stopping.{AreIn}
-use Rattle.sb_prep.specs.Unit.{Progress, with_given, beginning, most_read, most_tokens}
+use Rattle.sb_prep.specs.Unit.{Progress, with_given, beginning, most_read}
 
 -- how far the unit has come, the pieces that were given, and how many texts the table of names may hold
 pub record Standing : Type 0 where

@@ -9,14 +9,8 @@ use Rattle.sb_base.specs.declared.refusals.Stop.{Stop}
 use Rattle.sb_base.specs.declared.refusals.Stop.TheVariants as stop
 use Rattle.sb_base.specs.declared.tokens.Token.{Token}
 use Rattle.sb_lex.specs.declared.piece.PpToken.{PpToken}
-pub use Rattle.sb_lex.specs.Places.{IsAmong}
 use Rattle.sb_prep.specs.declared.fault.UnitFault.{UnitFault}
 use Rattle.sb_prep.specs.declared.fault.UnitFault.TheVariants as fault
-
--- want of memory, or a refusal by such a number at such a place
-abbrev pub IsStop : (ℕ → Place → Type 0) → Stop → Type 0
-IsStop refuses stop.Memory = Unit {0}
-IsStop refuses (stop.Refused r) = refuses r.number r.place × (r.feature ≡ 0)
 
 -- the place is in one of the first so many files
 abbrev pub IsIn : ℕ → Place → Type 0

@@ -10,8 +10,8 @@ use Rattle.sb_base.specs.declared.tokens.Token.{Token}
 use Rattle.sb_lex.specs.declared.piece.PpToken.{PpToken}
 use Rattle.sb_lex.specs.Lexing.{HasRoom}
 use Rattle.sb_lex.specs.Values.{number_of, IsCharacter, IsText}
-use Rattle.sb_prep.specs.Lines.{spelling}
-use Rattle.sb_prep.specs.Ending.{Ending, Ended, Refused}
+use Rattle.sb_directive.specs.Lines.{spelling}
+use Rattle.sb_directive.specs.Ending.{Ending, Ended, Refused}
 
 abbrev pub is_text_kind : PpKind → Bool
 is_text_kind kind.Text = true

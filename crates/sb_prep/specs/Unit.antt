@@ -1,5 +1,5 @@
 -- the pieces that the directives of a file leave (C99 6.10), and where it is refused
-use Rattle.std.specs.Prelude.{◌≡◌, ℕ, suc, ◌+◌, ◌-◌, ◌<◌, ◌≤◌, ◌⊎◌, Bool, true, false, List, [], ◌∷◌, ◌++◌, length, Option, Some, None, slice_get, take, drop, nat_eq, if◌then◌else◌}
+use Rattle.std.specs.Prelude.{◌≡◌, ℕ, suc, ◌+◌, ◌-◌, ◌<◌, ◌≤◌, ◌⊎◌, Bool, true, false, List, [], ◌∷◌, ◌++◌, length, Option, Some, None, slice_get, take, drop, nat_eq}
 use Rattle.std.specs.List.{list_any}
 use Rattle.sb_base.specs.Names.{with_text}
 use Rattle.sb_base.specs.Found.{Found, Missing, TooBig, Whole as Present, IsFound}
@@ -8,17 +8,24 @@ use Rattle.sb_base.specs.declared.refusals.Place.{Place}
 use Rattle.sb_base.specs.declared.tokens.Token.{Token}
 use Rattle.sb_lex.specs.declared.piece.PpToken.{PpToken}
 use Rattle.sb_lex.specs.Lexing.{PiecesOf, Whole, Stopped}
-use Rattle.sb_prep.specs.declared.directive.Branch.{Branch}
-use Rattle.sb_prep.specs.declared.asks.Asks.TheVariants as asked
-use Rattle.sb_prep.specs.Ending.{Ending, Ended, Refused}
+use Rattle.sb_directive.specs.declared.directive.Branch.{Branch}
+use Rattle.sb_directive.specs.declared.asks.Asks.TheVariants as asked
+use Rattle.sb_directive.specs.Ending.{Ending, Ended, Refused}
+use Rattle.sb_directive.specs.Lines.{begins_directive, end_of, part_size, place_of}
+use Rattle.sb_directive.specs.Branches.{is_read}
+use Rattle.sb_directive.specs.Asking.{asks, branches_after, branches_if}
+use Rattle.sb_directive.specs.Headers.{Header, is_header, header_of, Source, BuiltIn, File, source_of, file_name}
+use Rattle.sb_directive.specs.Rules.{Table, IsExpansion, HasStopped, IsDefinition, IsNoDefinition, undefined, no_macros}
+use Rattle.sb_directive.specs.Conditions.{HasTruth, HasNoTruth}
+pub use Rattle.sb_directive.specs.Limits.{most_tokens}
 use Rattle.sb_prep.specs.Tokens.{Converts}
-use Rattle.sb_prep.specs.Lines.{text_size, line_size, begins_directive, end_of, place_of}
-use Rattle.sb_prep.specs.Branches.{is_read}
-use Rattle.sb_prep.specs.Asking.{asks, branches_after, branches_if}
-use Rattle.sb_prep.specs.Headers.{Header, is_header, header_of, Source, BuiltIn, File, source_of, file_name}
-use Rattle.sb_prep.specs.Rules.{Table, IsExpansion, HasStopped, IsDefinition, IsNoDefinition, undefined, no_macros}
-use Rattle.sb_prep.specs.Conditions.{HasTruth, HasNoTruth}
-pub use Rattle.sb_prep.specs.Limits.{most_tokens, most_read, deepest}
+
+-- at most so many pieces are read in a unit, and files are included so deep
+abbrev pub most_read : ℕ
+most_read = 4000000
+
+abbrev pub deepest : ℕ
+deepest = 64
 
 -- how far a unit has come: its macros, the files that are included once, how many pieces were read and how many tokens given, the tables of names and of files
 pub record Progress : Type 0 where
@@ -46,10 +53,6 @@ with_names s texts = record { table = s.table; once = s.once; read = s.read; giv
 
 abbrev pub with_file : Progress → List ℕ → Progress
 with_file s name = record { table = s.table; once = s.once; read = s.read; given = s.given; texts = s.texts; files = with_text s.files name }
-
--- how many pieces stand before the next line that is carried out by itself: all up to the next directive, or a directive's line
-abbrev pub part_size : List (List ℕ) → List PpToken → ℕ
-part_size texts ps = if begins_directive texts ps then line_size ps else text_size texts ps
 
 -- ---- the lines of directives
 

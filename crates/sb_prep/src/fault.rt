@@ -1,11 +1,9 @@
 //! Why a unit has no tokens.
-ghost use Rattle.std.specs.Prelude.{◌≡◌};
-
-use sb_base::{FetchFault, Place, Refusal, Stop};
+use sb_base::{FetchFault, Refusal, Stop};
 use std::alloc::{AllocError, AllocFailed};
 
 /// Why a unit has no tokens: its source is refused, the library failed to read a file, or memory ran out.
-#[derive(Clone, Copy, Debug, PartialEq, Eq)]
+#[derive(Clone, Copy, PartialEq, Eq)]
 pub enum UnitFault {
     Refused(Refusal),
     Read,
@@ -49,15 +47,4 @@ impl From<AllocError> for UnitFault {
     fn from(_e: AllocError) -> UnitFault {
         UnitFault::Memory
     }
-}
-
-/// A refusal by a number at a place, which names no feature.
-pub(crate) fn refused(number: u16, place: Place) -> Stop
-    ensures { result ≡ Stop.Refused (record { number = number; place = place; feature = 0 }) }
-{
-    Stop::Refused(Refusal {
-        number,
-        place,
-        feature: 0,
-    })
 }

@@ -1,17 +1,18 @@
 //! Files that are included (C99 6.10.2).
 ghost use Rattle.std.specs.Prelude.{◌≡◌, ◌<◌, ◌≤◌, ◌+◌, ℕ, List, Some, None, MatchResult, IfOk, length};
 ghost use Rattle.sb_base.specs.Found.{seen, IsWithinLimit, HasReadCause};
-ghost use Rattle.sb_prep.specs.Headers.{BuiltIn, is_header};
+ghost use Rattle.sb_directive.specs.Headers.{BuiltIn, is_header};
+ghost use Rattle.sb_directive.specs.Sources.{source_seen};
+ghost use Rattle.sb_directive.specs.Stopping.{IsStop, IsAmong};
 ghost use Rattle.sb_prep.specs.Reading.{IsFoundAt, IsSeekResult, IsOpen, IsShut, IsIncluded, IsBarred};
-ghost use Rattle.sb_prep.specs.Sources.{source_seen};
 ghost use Rattle.sb_prep.specs.Standing.{moved_to};
-ghost use Rattle.sb_prep.specs.Stopping.{IsStop, IsFault, IsKept, HasCause, IsAmong, AreIn};
+ghost use Rattle.sb_prep.specs.Stopping.{IsFault, IsKept, HasCause, AreIn};
 ghost use Rattle.sb_prep.specs.Unit.{IsContent, with_names};
 
-use crate::fault::{UnitFault, refused};
-use crate::headers::{HeaderName, Source, source_of};
+use crate::fault::UnitFault;
 use crate::state::State;
 use sb_base::{FetchFault, Found, Library, Place, PpKind, Stop, fetch_file};
+use sb_directive::{HeaderName, Source, source_of, stop_at};
 use sb_lex::PpToken;
 use std::alloc::Global;
 
@@ -39,12 +40,12 @@ fn is_header(piece: &PpToken) -> bool
 }
 
 /// The header, if there is one; without one the `#include` is refused.
-fn sought(header: Option<HeaderName>, place: Place) -> Result<SoughtHeader, Stop>
+fn header_at(header: Option<HeaderName>, place: Place) -> Result<SoughtHeader, Stop>
     ensures found { IsFoundAt header place result }
 {
     match header {
         Some(header) => Ok(SoughtHeader { header, place }),
-        None => Err(refused(24, place)),
+        None => Err(stop_at(24, place)),
     }
 }
 
@@ -55,10 +56,10 @@ fn seek(alloc: Global, state: &State, behind: &[PpToken]) -> Result<SoughtHeader
 {
     let first = behind[0];
     if is_header(&first) {
-        return sought(state.header(alloc, behind)?, first.place);
+        return header_at(state.header(alloc, behind)?, first.place);
     }
-    let replaced = state.expanded(alloc, behind)?;
-    sought(state.header(alloc, &replaced)?, first.place)
+    let replaced = state.expand(alloc, behind)?;
+    header_at(state.header(alloc, &replaced)?, first.place)
 }
 
 /// What a source has: a text that is built in, or a file of the library.
@@ -76,7 +77,7 @@ fn content<L: Library>(alloc: Global, lib: &mut L, source: &Source) -> Result<Fo
 }
 
 /// The pieces of what was found of an included file, whose header stands at a place.
-fn opened(
+fn included_file(
     alloc: Global,
     state: &mut State,
     depth: u32,
@@ -89,12 +90,12 @@ fn opened(
     ensures moved { state.new ≡ moved_to state.old (with_names state.old.at state.new.at.texts) }
 {
     let bytes = match found {
-        Found::Missing => return Err(refused(21, place)),
-        Found::TooBig => return Err(refused(22, place)),
+        Found::Missing => return Err(stop_at(21, place)),
+        Found::TooBig => return Err(stop_at(22, place)),
         Found::Whole(bytes) => bytes,
     };
     if depth >= DEEPEST {
-        return Err(refused(23, place));
+        return Err(stop_at(23, place));
     }
     let pieces = state.lex(alloc, bytes, file)?;
     Ok(Included { file, pieces })
@@ -125,6 +126,6 @@ pub(crate) fn include<L: Library>(
         return Ok(None);
     }
     let found = content(alloc, lib, &source)?;
-    let inner = opened(alloc, state, depth, file, &found, sought.place)?;
+    let inner = included_file(alloc, state, depth, file, &found, sought.place)?;
     Ok(Some(inner))
 }

@@ -5,32 +5,29 @@ ghost use Rattle.std.specs.Option.{option_map};
 ghost use Rattle.sb_base.specs.Names.{NameTable, with_text};
 ghost use Rattle.sb_lex.specs.Faults.{IsNoPieces};
 ghost use Rattle.sb_lex.specs.Lexing.{PiecesOf, Whole};
-ghost use Rattle.sb_prep.specs.Asking.{asks};
-ghost use Rattle.sb_prep.specs.Conditions.{HasTruth, HasNoTruth};
-ghost use Rattle.sb_prep.specs.Ending.Ending.{Ended};
-ghost use Rattle.sb_prep.specs.Headers.{header_of};
-ghost use Rattle.sb_prep.specs.Lines.{begins_directive};
-ghost use Rattle.sb_prep.specs.Rules.{Table, IsExpansion, IsDefinition, IsNoDefinition, HasStopped, undefined};
-ghost use Rattle.sb_prep.specs.Sources.{header_seen};
+ghost use Rattle.sb_directive.specs.Asking.{asks};
+ghost use Rattle.sb_directive.specs.Conditions.{HasTruth, HasNoTruth};
+ghost use Rattle.sb_directive.specs.Ending.Ending.{Ended};
+ghost use Rattle.sb_directive.specs.Headers.{header_of};
+ghost use Rattle.sb_directive.specs.Lines.{begins_directive, part_size};
+ghost use Rattle.sb_directive.specs.Rules.{Table, IsExpansion, IsDefinition, IsNoDefinition, HasStopped, undefined};
+ghost use Rattle.sb_directive.specs.Sources.{header_seen};
+ghost use Rattle.sb_directive.specs.Stopping.{IsStop, IsAmong};
+ghost use Rattle.sb_directive.specs.Limits.{most_tokens};
 ghost use Rattle.sb_prep.specs.Standing.{Standing, moved_to, start, Gives};
-ghost use Rattle.sb_prep.specs.Stopping.{IsStop, IsAmong, IsIn, AreIn};
+ghost use Rattle.sb_prep.specs.Stopping.{IsIn, AreIn};
 ghost use Rattle.sb_prep.specs.Tokens.{Converts, IsNoTokens};
-ghost use Rattle.sb_prep.specs.Unit.{most_read, most_tokens, part_size, with_read, with_table, with_names, with_once, with_file};
+ghost use Rattle.sb_prep.specs.Unit.{most_read, with_read, with_table, with_names, with_once, with_file};
 
-use crate::asks::{Asks, asks_of};
-use crate::branches::Branches;
-use crate::headers::{HeaderName, header_of};
-use crate::lines::{begins_directive, part_size};
-use crate::rules::Rules;
 use crate::tokens::tokens;
-use crate::truth::truth;
 use sb_base::{Files, Name, Names, Place, Stop, Token};
+use sb_directive::{
+    Asks, Branches, HeaderName, MOST_TOKENS, Rules, asks_of, begins_directive, header_of,
+    part_size, truth,
+};
 use sb_lex::{PpToken, lex};
 use std::alloc::{AllocError, Global};
 use std::marker::Model;
-
-/// A unit has at most so many tokens.
-pub(crate) const MOST_TOKENS: u32 = 1_000_000;
 
 /// At most so many pieces are read in a unit.
 const MOST_READ: u32 = 4_000_000;
@@ -138,7 +135,7 @@ impl State {
     }
 
     /// What macros make of the pieces of a line.
-    pub(crate) fn expanded(&self, alloc: Global, pieces: &[PpToken]) -> Result<Vec<PpToken>, Stop>
+    pub(crate) fn expand(&self, alloc: Global, pieces: &[PpToken]) -> Result<Vec<PpToken>, Stop>
         ensures expansion { MatchResult result (λ out. IsExpansion self.now.at.texts self.now.at.table most_tokens pieces.now out.items) (IsStop (λ number place. HasStopped self.now.at.texts self.now.at.table most_tokens pieces.now number place × IsAmong pieces.now place)) }
     {
         self.rules.expand(alloc, &self.names, pieces, MOST_TOKENS)

@@ -2,24 +2,14 @@
 //! (C99 5.1.1.2, translation phases 5 to 7).
 ghost use Rattle.std.specs.Prelude.{◌≡◌, ◌≤◌, ℕ, [], true, IfSome, IfNone, IfOk, IfErr, MatchOption, MatchResult, length, slice_get};
 ghost use Rattle.sb_base.specs.Names.{IsDistinct};
-ghost use Rattle.sb_prep.specs.Ending.Ending.{Ended};
+ghost use Rattle.sb_directive.specs.Ending.Ending.{Ended};
 ghost use Rattle.sb_prep.specs.Converting.{Begins, IsBadLiteral};
 ghost use Rattle.sb_prep.specs.Tokens as spec;
 
-use crate::spelling::spelling;
-use sb_base::{Names, NamesFault, Place, PpKind, Refusal, Stop, Token};
+use sb_base::{Names, NamesFault, PpKind, Stop, Token};
+use sb_directive::{spelling, stop_at};
 use sb_lex::{PpToken, character_value, literal_bytes, number_value};
 use std::alloc::Global;
-
-fn refused(number: u16, place: Place) -> Stop
-    ensures { result ≡ Stop.Refused (record { number = number; place = place; feature = 0 }) }
-{
-    Stop::Refused(Refusal {
-        number,
-        place,
-        feature: 0,
-    })
-}
 
 /// The value of a piece that is no string literal; None for a number or a character that has none.
 fn value_of(kind: PpKind, text: &[u8]) -> Option<u64>
@@ -57,7 +47,7 @@ fn joined_bytes(alloc: Global, names: &Names, literals: &[PpToken]) -> Result<Ve
             return Err(Stop::Memory);
         };
         let Some(more) = found else {
-            return Err(refused(4, literal.place));
+            return Err(stop_at(4, literal.place));
         };
         let Ok(()) = bytes.extend_from_slice(&more) else {
             return Err(Stop::Memory);
@@ -92,7 +82,7 @@ fn literal_token<'a>(
             };
             Ok((token, behind))
         }
-        Err(NamesFault::Full) => Err(refused(28, first.place)),
+        Err(NamesFault::Full) => Err(stop_at(28, first.place)),
         Err(NamesFault::Memory) => Err(Stop::Memory),
     }
 }
@@ -116,7 +106,7 @@ fn first_token<'a>(
         return Ok(Some(token));
     }
     let Some(value) = value_of(first.kind, spelling(names, first)) else {
-        return Err(refused(4, first.place));
+        return Err(stop_at(4, first.place));
     };
     let token = Token {
         kind: first.kind,
@@ -157,57 +147,4 @@ pub(crate) fn tokens(
         rest = behind;
     }
     Ok(tokens)
-}
-
-#[cfg(test)]
-mod tests {
-    use super::*;
-    use crate::spelling::made::pieces_of;
-    use std::fmt::Write;
-    use std::test::Fail;
-
-    /// Each token's text and value, or the number of the refusal and which piece it is at.
-    fn shown(alloc: Global, limit: u32, text: &str) -> Result<String, Fail> {
-        let mut names = Names::new(alloc, limit);
-        let pieces = pieces_of(alloc, &mut names, text)?;
-        let mut shown = String::new(alloc);
-        match tokens(alloc, &mut names, &pieces) {
-            Ok(tokens) => {
-                for token in &tokens {
-                    for byte in names.text(token.text).unwrap_or(b"?".as_slice()) {
-                        shown.push(*byte as char)?;
-                    }
-                    let value = token.value;
-                    write!(shown, " {value};")?;
-                }
-            }
-            Err(Stop::Refused(refusal)) => {
-                let number = refusal.number;
-                let col = refusal.place.col;
-                write!(shown, "refused {number} at {col}")?;
-            }
-            Err(Stop::Memory) => shown.push_str("memory")?,
-        }
-        Ok(shown)
-    }
-
-    #[test]
-    fn converts_pieces(rt: HostRuntime) -> Result<(), Fail> {
-        for (limit, text, want) in [
-            (9, "", ""),
-            (9, "f|(|42|)", "f 0;( 0;42 42;) 0;"),
-            (9, "017|0x1Fu|10LL", "017 15;0x1Fu 31;10LL 10;"),
-            (9, "'a'|'\\xff'", "'a' 97;'\\xff' 18446744073709551615;"),
-            (9, "\"a\"|\"\"|\"bc\"|;|\"abc\"", "abc 0;; 0;abc 0;"),
-            (9, "\"\\x1\"|\"2\"", "\u{1}2 0;"),
-            (9, "1|08|09", "refused 4 at 2"),
-            (9, "\"a\"|\"\\q\"|''", "refused 4 at 2"),
-            (4, "a|\"b\"|\"c\"", "a 0;bc 0;"),
-            (3, "a|\"b\"|\"c\"", "refused 28 at 2"),
-        ] {
-            let found = shown(rt.alloc(), limit, text)?;
-            assert_eq!(rt; found.as_str(), want, "at {text}");
-        }
-        Ok(())
-    }
 }

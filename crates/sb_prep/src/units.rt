@@ -2,21 +2,23 @@
 ghost use Rattle.std.specs.Prelude.{◌≡◌, ◌<◌, ◌≤◌, ◌+◌, ◌-◌, ◌^◌, ◌⊎◌, ℕ, List, [], Option, Some, false, true, MatchResult, IfOk, length};
 ghost use Rattle.sb_base.specs.Found.{seen, IsWithinLimit};
 ghost use Rattle.sb_base.specs.Names.{IsDistinct};
-ghost use Rattle.sb_prep.specs.Asking as asking;
-ghost use Rattle.sb_prep.specs.Lines.{begins_directive, end_of};
+ghost use Rattle.sb_directive.specs.Asking as asking;
+ghost use Rattle.sb_directive.specs.Lines.{begins_directive, end_of};
+ghost use Rattle.sb_directive.specs.Stopping.{IsStop};
+ghost use Rattle.sb_directive.specs.Limits.{most_tokens};
 ghost use Rattle.sb_prep.specs.Outcomes.{IsOnlyOutcome};
 ghost use Rattle.sb_prep.specs.Reading.{IsCarried, IsDirective, IsNoDirective, IsTextRead, IsLate, IsPartRead, IsUnclosed, IsFile, HasPieces, HasNoPieces, IsUnitOf};
 ghost use Rattle.sb_prep.specs.Standing.{moved_to, start};
-ghost use Rattle.sb_prep.specs.Stopping.{IsStop, IsFault, IsIn, AreIn, AreTokensIn, IsKept, HasCause};
-ghost use Rattle.sb_prep.specs.Unit.{IsFront, most_read, most_tokens, file_start, with_names};
+ghost use Rattle.sb_prep.specs.Stopping.{IsFault, IsIn, AreIn, AreTokensIn, IsKept, HasCause};
+ghost use Rattle.sb_prep.specs.Unit.{IsFront, most_read, file_start, with_names};
 
-use crate::asks::Asks;
-use crate::branches::{Branches, opened, turned};
-use crate::fault::{UnitFault, refused};
+use crate::fault::UnitFault;
 use crate::including::{Included, include};
-use crate::lines::{behind_word, end_of, place_of};
 use crate::state::State;
 use sb_base::{Files, Found, Library, Names, Place, Stop, Token, fetch_file};
+use sb_directive::{
+    Asks, Branches, behind_word, end_of, new_branch, next_group, place_of, stop_at,
+};
 use sb_lex::PpToken;
 use std::alloc::Global;
 use std::mem;
@@ -62,11 +64,11 @@ fn carry_out(
         }
         Asks::OpensIf => {
             let holds = state.truth(alloc, place_of(line), behind_word(line))?;
-            branches.open(opened(holds))
+            branches.open(new_branch(holds))
         }
         Asks::TurnsIf(branch) => {
             let holds = state.truth(alloc, place_of(line), behind_word(line))?;
-            branches.replace(turned(branch, holds))
+            branches.replace(next_group(branch, holds))
         }
         Asks::Defines => state.define(alloc, behind_word(line)),
         Asks::Undefines(name) => {
@@ -74,7 +76,7 @@ fn carry_out(
             Ok(())
         }
         Asks::Once => state.add_once(file),
-        Asks::Refused(number, place) => Err(refused(number, place)),
+        Asks::Refused(number, place) => Err(stop_at(number, place)),
     }
 }
 
@@ -146,7 +148,7 @@ fn overflow(
     ensures files { state.new.at.files ≡ state.old.at.files }
     ensures limit { state.new.limit ≡ state.old.limit }
 {
-    let last = refused(16, pieces[unread].place);
+    let last = stop_at(16, pieces[unread].place);
     if state.begins_directive(pieces) || !branches.is_read() {
         return last;
     }
@@ -199,7 +201,7 @@ fn ensure_closed(branches: &Branches, file: u32, pieces: &[PpToken]) -> Result<(
                 line: 0,
                 col: 0,
             };
-            Err(refused(25, end_of(start, pieces)))
+            Err(stop_at(25, end_of(start, pieces)))
         }
         None => Ok(()),
     }
@@ -258,8 +260,8 @@ fn pieces_of(
         col: 0,
     };
     match found {
-        Found::Missing => Err(refused(21, start)),
-        Found::TooBig => Err(refused(22, start)),
+        Found::Missing => Err(stop_at(21, start)),
+        Found::TooBig => Err(stop_at(22, start)),
         Found::Whole(bytes) => state.lex(alloc, bytes, file),
     }
 }

@@ -14,4 +14,4 @@ pub returns-in-Err-clause-refused : goal.returns-in-Err-clause-refused
 returns-in-Err-clause-refused c =
     let count = length c.args.tokens.now in
     let place = ap (λ f. unwrap_or f (count - c.in-Err.stop.left)) (sym (fault_in_number c.in-Err.stop.fault)) in
-    judged_err c.args.tokens.now (Err c.refused_at.result) (ap Err (c.refused_at.ensures.at ∙ place) ∙ ap (judged count) (sym c.in-Err.ensures.read))
+    judged_err c.args.tokens.now (Err c.refusal_at.result) (ap Err (c.refusal_at.ensures.at ∙ place) ∙ ap (judged count) (sym c.in-Err.ensures.read))

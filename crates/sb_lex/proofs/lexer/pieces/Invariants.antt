@@ -1,8 +1,7 @@
-use Rattle.std.proofs.Common.{◌≡◌, ◌≤◌, length}
-use Rattle.sb_base.specs.Names.{IsDistinct}
+use Rattle.std.proofs.Common.{◌≤◌, length}
 use Rattle.sb_lex.specs.Splicing.{text_of_file}
 use Rattle.sb_lex.specs.Lexing.{most_pieces}
-use Rattle.sb_lex.specs.Faults.{KeepsNumbers}
+use Rattle.sb_lex.specs.Tables.{KeepsTable}
 use Rattle.sb_lex.proofs.Reading.{Goes}
 use Rattle.sb_lex.proofs.lexer.pieces.Given as goal
 
@@ -11,10 +10,7 @@ invariant-items l = record {
   goes : Goes l.file l.initial.names.limit l.initial.names.texts (text_of_file l.bytes) l.pieces.items l.line l.spaced l.names.texts l.rest;
   short : length l.rest ≤ 4194304;
   few : length l.pieces.items ≤ most_pieces;
-  limit : l.names.limit ≡ l.initial.names.limit;
-  numbers : KeepsNumbers l.initial.names.texts l.names.texts;
-  distinct : IsDistinct l.initial.names.texts → IsDistinct l.names.texts;
-  within : length l.initial.names.texts ≤ l.initial.names.limit → length l.names.texts ≤ l.names.limit;
+  table : KeepsTable l.initial.names l.names;
 }
 
 abbrev pub decreases-items : goal.decreases-items

@@ -15,8 +15,8 @@ returns-in-Some-macro_at c =
     let texts = c.args.names.now.texts in
     let table = map macro_of c.args.macros.now in
     let there : Some (macro_of c.in-Some-macro_at.other.now) ≡ macro_at table c.args.line.now = c.in-Some-macro_at.ensures in
-    compared_line texts table c.args.line.now c.in-Some.name.now _ c.definition-parsed.result (macro_of c.in-Some-macro_at.other.now) c.compared.result
-    (sym c.in-Some.ensures.cases.0) c.definition-parsed.ensures (sym there) c.compared.ensures
+    compared_line texts table c.args.line.now c.in-Some.name.now _ c.definition-parsed.result (macro_of c.in-Some-macro_at.other.now) c.addition_beside.result
+    (sym c.in-Some.ensures.cases.0) c.definition-parsed.ensures (sym there) c.addition_beside.ensures
 
 pub returns-in-Err : goal.returns-in-Err
 returns-in-Err c = refused_new c.args.names.now.texts _ c.args.line.now c.in-Err.halt (sym c.in-None.ensures) c.in-Err.ensures

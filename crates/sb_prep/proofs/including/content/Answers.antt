@@ -1,5 +1,5 @@
 use Rattle.std.proofs.Common.{ap}
-use Rattle.sb_prep.specs.Sources.{source_by_text}
+use Rattle.sb_directive.specs.Sources.{source_by_text}
 use Rattle.sb_prep.proofs.including.content.Goals as goal
 
 pub returns-in_ok-from_slice-in-Some-clause-within : goal.returns-in_ok-from_slice-in-Some-clause-within

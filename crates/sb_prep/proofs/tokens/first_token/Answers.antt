@@ -5,7 +5,7 @@ use Rattle.sb_prep.proofs.tokens.first_token.Goals as goal
 pub returns-in_default-value_of-clause-refused : goal.returns-in_default-value_of-clause-refused
 returns-in_default-value_of-clause-refused c =
     let none = rw c.spelling.ensures.spelling at c.in_default-value_of.ensures.none in
-    rw (c.in-Some.ensures.cases.0, c.refused.ensures) (refused_value _ _ c.in-Some.first.now _ (sym c.if-is_literal.ensures) none)
+    rw (c.in-Some.ensures.cases.0, c.stop_at.ensures) (refused_value _ _ c.in-Some.first.now _ (sym c.if-is_literal.ensures) none)
 
 pub returns-clause-token : goal.returns-clause-token
 returns-clause-token c =

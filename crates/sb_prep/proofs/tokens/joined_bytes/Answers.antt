@@ -9,7 +9,7 @@ loop-literal-init c = rw c.new-bytes.ensures.items none
 pub returns-in_default-found : goal.returns-in_default-found
 returns-in_default-found c =
     let nameless = rw (c.in_default-found.is, c.spelling.ensures.spelling) at c.in-Ok.ensures.literal in
-    record { joined = bad_literal _ _ c.loop-literal.literal-index _ _ _ (omega arith) c.loop-literal.invariant nameless c.refused.ensures }
+    record { joined = bad_literal _ _ c.loop-literal.literal-index _ _ _ (omega arith) c.loop-literal.invariant nameless c.stop_at.ensures }
 
 pub loop-literal-preserved : goal.loop-literal-preserved
 loop-literal-preserved c =

@@ -24,4 +24,4 @@ returns-in-Err-Full-clause-token c =
     let why = c.in-Err-Full.ensures in
     let full = why.full.0 (ap Err c.in-Err-Full.field-0-is) in
     let room = no_room_for c.args.names.now.limit c.args.names.now.texts c.deref.result.now full in
-    rw (why.err, c.refused.ensures) (refused_room _ _ _ c.args.first.now _ c.requires.first c.requires.literal named (rw c.deref.ensures.value at room))
+    rw (why.err, c.stop_at.ensures) (refused_room _ _ _ c.args.first.now _ c.requires.first c.requires.literal named (rw c.deref.ensures.value at room))

@@ -6,7 +6,7 @@ use Rattle.sb_prep.proofs.units.overflow.Goals.{then-begins_directive-via-then-b
 
 pub returns-then-begins_directive-clause-refused : goal.returns-then-begins_directive-clause-refused
 returns-then-begins_directive-clause-refused c = λ held depth file size front over.
-    rw c.refused-last.ensures (
+    rw c.stop_at-last.ensures (
       too_many held depth file c.args.branches.now c.args.state.now c.args.pieces.now size front over c.args.unread c.requires.unread c.requires.within c.requires.held _
           (elim c.then-begins_directive.branch [
             | then-begins_directive-via-then-begins_directive w ↦ inl (sym c.begins_directive.ensures.begins ∙ w.if-begins_directive.true)
@@ -17,7 +17,7 @@ returns-then-begins_directive-clause-refused c = λ held depth file size front o
 
 pub returns-in-Ok-clause-refused : goal.returns-in-Ok-clause-refused
 returns-in-Ok-clause-refused c = λ held depth file size front over.
-    rw c.refused-last.ensures (
+    rw c.stop_at-last.ensures (
       too_many_in_text held depth file c.args.branches.now c.args.state.now c.args.pieces.now size front over c.args.unread c.requires.unread c.requires.within c.requires.held _
           c.give.new.self (sym c.begins_directive.ensures.begins ∙ c.if-begins_directive.false) (sym c.is_read.ensures.read ∙ c.if-not-is_read.false) c.in-Ok.ensures.given,
       refl,

@@ -5,10 +5,10 @@ use Rattle.sb_prep.proofs.WholeUnit.{lexed_result}
 use Rattle.sb_prep.proofs.units.pieces_of.Goals as goal
 
 pub returns-in-Missing-clause-pieces : goal.returns-in-Missing-clause-pieces
-returns-in-Missing-clause-pieces c = rw c.refused.ensures (HasNoPieces.missing (ap seen c.in-Missing.is) refl, refl)
+returns-in-Missing-clause-pieces c = rw c.stop_at.ensures (HasNoPieces.missing (ap seen c.in-Missing.is) refl, refl)
 
 pub returns-in-TooBig-clause-pieces : goal.returns-in-TooBig-clause-pieces
-returns-in-TooBig-clause-pieces c = rw c.refused-in-TooBig.ensures (HasNoPieces.too_big (ap seen c.in-TooBig.is) refl, refl)
+returns-in-TooBig-clause-pieces c = rw c.stop_at-in-TooBig.ensures (HasNoPieces.too_big (ap seen c.in-TooBig.is) refl, refl)
 
 pub returns-in-Whole-clause-pieces : goal.returns-in-Whole-clause-pieces
 returns-in-Whole-clause-pieces c =

@@ -1,7 +1,7 @@
 use Rattle.std.proofs.Common.{length, arith, ap}
 use Rattle.std.proofs.lemmas.Result.{err_from_is_err_and}
 use Rattle.sb_base.specs.Found.{seen}
-use Rattle.sb_prep.specs.Ending.{Ended}
+use Rattle.sb_directive.specs.Ending.{Ended}
 use Rattle.sb_prep.specs.Stopping.{IsKept}
 use Rattle.sb_prep.proofs.Held.{kept_on}
 use Rattle.sb_prep.proofs.WholeUnit.{number_in, kept, not_read, pieces_held, file_refused, converted, no_tokens, tokens_in, as_many}

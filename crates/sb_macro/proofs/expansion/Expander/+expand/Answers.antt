@@ -21,7 +21,7 @@ pub expand_each-returns-in-Err-clause-expanded : goal.expand_each-returns-in-Err
 expand_each-returns-in-Err-clause-expanded t c =
     let scope = scope_of c.args.self.now in
     let here = subst (λ l. AreExpanding scope (lists c.args.args.items) (fulls_of c.loop-arg.fulls.items) (lists l)) c.in-Some.ensures.items c.loop-arg.invariant.expanding in
-    rw c.moved.ensures (argument_halts scope _ _ _ _ c.args.place c.args.place c.in-Err.halt here c.in-Err.ensures.expanded)
+    rw c.halt_at.ensures (argument_halts scope _ _ _ _ c.args.place c.args.place c.in-Err.halt here c.in-Err.ensures.expanded)
 
 pub expand_list-returns-in-Err-clause-expanded : goal.expand_list-returns-in-Err-clause-expanded
 expand_list-returns-in-Err-clause-expanded t c =
@@ -29,8 +29,8 @@ expand_list-returns-in-Err-clause-expanded t c =
     let here = subst (λ l. IsExpanding scope (toks c.args.pending.items) (toks c.loop-marked.out.items) (toks l)) c.in-Some.ensures.items c.loop-marked.invariant.expanding in
     halts_at scope _ _ _ _ c.args.last c.in-Err.halt here c.in-Err.ensures.replaced
 
-pub expand_list-loop-marked-preserved-in-Some-called : goal.expand_list-loop-marked-preserved-in-Some-called
-expand_list-loop-marked-preserved-in-Some-called t c =
+pub expand_list-loop-marked-preserved-in-Some-called_macro : goal.expand_list-loop-marked-preserved-in-Some-called_macro
+expand_list-loop-marked-preserved-in-Some-called_macro t c =
     let scope = scope_of c.args.self.now in
     let here = subst (λ l. IsExpanding scope (toks c.args.pending.items) (toks c.loop-marked.out.items) (toks l)) c.in-Some.ensures.items c.loop-marked.invariant.expanding in
     record { expanding = replaced_on scope _ _ _ _ _ here c.in-Ok.ensures.replaced; budget = omega arith }

@@ -1,0 +1,13 @@
+pub mod Lines
+pub mod Branches
+pub mod Headers
+pub mod Sources
+pub mod Rules
+pub mod Asking
+pub mod Limits
+pub mod Stopping
+pub mod Ending
+pub mod Defined
+pub mod Preparing
+pub mod Conditions
+pub mod Judging

@@ -1,5 +1,0 @@
-use Rattle.sb_prep.proofs.Angles.{Gathered}
-use Rattle.sb_prep.proofs.headers.up_to_angle.Given as goal
-
-abbrev pub invariant-loop-piece : goal.invariant-loop-piece
-invariant-loop-piece l = Gathered l.names.texts l.pieces l.text.items l.piece-index
