@@ -16,6 +16,3 @@ mod terms;
 mod values;
 
 pub use plain::Plain;
-
-#[cfg(test)]
-mod tests;

@@ -1,5 +1,5 @@
 /// What a step of the elimination comes to: there is more to do, or an answer is found.
-#[derive(Clone, Copy, Debug, PartialEq, Eq)]
+#[derive(Clone, Copy, PartialEq, Eq)]
 pub enum Outcome {
     Going,
     Proved,

@@ -6,7 +6,7 @@ use std::alloc::Global;
 
 /// The decider that keeps its rows in a plain list. It answers `LimitDigits` exactly where a number passes a limit, and
 /// its only fault is want of memory.
-#[derive(Clone, Copy, Debug, PartialEq, Eq)]
+#[derive(Clone, Copy, PartialEq, Eq)]
 pub struct Plain;
 
 impl Plain {

@@ -30,6 +30,3 @@ pub use row::Row;
 pub use steps::{Assignment, Step, Steps};
 pub use sym::Sym;
 pub use term::Term;
-
-#[cfg(test)]
-mod tests;

@@ -6,7 +6,7 @@ use sqlite_items::Items;
 use std::alloc::{AllocError, Global};
 
 /// `a` times row `i` plus `b` times row `j`. Rows are numbered from 0: the facts, the negated goal, then each step.
-#[derive(Clone, Copy, Debug, PartialEq, Eq)]
+#[derive(Clone, Copy, PartialEq, Eq)]
 pub struct Step {
     pub a: u64,
     pub i: u64,

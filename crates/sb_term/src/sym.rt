@@ -1,3 +1,3 @@
 /// A symbol: the number of an integer that the checker does not know.
-#[derive(Clone, Copy, Debug, PartialEq, Eq, PartialOrd, Ord)]
+#[derive(Clone, Copy, PartialEq, Eq, PartialOrd, Ord)]
 pub struct Sym(pub u64);
