@@ -6,12 +6,12 @@ use Rattle.sb_term.specs.AnswerOf.{answer_of}
 use Rattle.sb_term.proofs.Lawful.{lawful}
 use Rattle.sb_top.specs.declared.status.Status.{Status}
 use Rattle.sb_top.specs.declared.status.Status.TheVariants.{Clean, Warned}
-use Rattle.sb_top.specs.Walks.{report}
+use Rattle.sb_judge.specs.Walks.{report}
 use Rattle.sb_top.specs.Texts.{count_of}
 use Rattle.sb_top.specs.Words.{files_of_words}
 use Rattle.sb_top.specs.Sets.{most_names, Ending, Whole, Stopped, AreUnits}
 use Rattle.sb_top.specs.Outcomes.{IsReported, IsUnread, IsEndOf, IsAnswer, IsDefined, AreSafeIn}
-use Rattle.sb_top.proofs.Soundness.Reported.{report_is_safe}
+use Rattle.sb_top.proofs.Reported.{report_is_safe}
 
 -- a clean report is of a safe set
 

@@ -6,8 +6,8 @@ use Rattle.sb_base.specs.declared.refusals.Stop.TheVariants.{Refused}
 use Rattle.sb_base.specs.declared.tokens.Token.{Token}
 use Rattle.sb_parse.specs.Parser.{Outcome, done, stop}
 use Rattle.sb_tree.specs.Plain.{plain_decls}
-use Rattle.sb_expr.specs.Reads.{number_of, feature_of, left_of, place_of}
-use Rattle.sb_declare.specs.Readers.{Declarations}
+use Rattle.sb_lexicon.specs.Outcomes.{number_of, feature_of, left_of, place_of}
+use Rattle.sb_specifier.specs.Readers.{Declarations}
 use Rattle.sb_decl.specs.Reads.{IsUnitRead}
 use Rattle.sb_decl.proofs.UnitLaws.{unit_complete}
 use Rattle.sb_top.specs.Sets.{HasTree, IsMisread}

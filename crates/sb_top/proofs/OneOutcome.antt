@@ -9,21 +9,21 @@ use Rattle.sb_prep.specs.Ending.{Ended, Refused as RefusedAt}
 use Rattle.sb_prep.specs.Unit.{IsUnit}
 use Rattle.sb_prep.proofs.OneUnit.{one_unit, unit_keeps}
 use Rattle.sb_term.specs.AnswerOf.{answer_of}
-use Rattle.sb_top.specs.declared.lexeme.Piece.{Piece}
+use Rattle.sb_function.specs.declared.lexeme.Piece.{Piece}
 use Rattle.sb_top.specs.declared.status.Status.{Status}
-use Rattle.sb_top.specs.Syntax.{FunctionTree}
-use Rattle.sb_top.specs.Grammar.{IsFile}
-use Rattle.sb_top.specs.Walks.{report}
+use Rattle.sb_function.specs.Syntax.{FunctionTree}
+use Rattle.sb_function.specs.Grammar.{IsFile}
+use Rattle.sb_judge.specs.Walks.{report}
 use Rattle.sb_top.specs.Texts.{refusal, report_text}
 use Rattle.sb_top.specs.Words.{files_of_words}
-use Rattle.sb_top.specs.Lexemes.{pieces_of}
+use Rattle.sb_function.specs.Lexemes.{pieces_of}
 use Rattle.sb_top.specs.Sets.{most_names, Ending, Whole, Stopped, no_feature, HasTree, IsMisread, IsRefusedUnit, AreUnits, AreRead, IsRefusedAt, IsUnreadAt}
 use Rattle.sb_top.specs.Sets.IsRefusedUnit.{by_preprocessor, by_grammar}
 use Rattle.sb_top.specs.Sets.AreUnits.{none, next, refused}
 use Rattle.sb_top.specs.Sets.AreRead.{ended, read}
 use Rattle.sb_top.specs.Sets.IsUnreadAt.{here, behind}
 use Rattle.sb_top.specs.Outcomes.{IsReported, IsUnread, IsOutcome, IsEndOf, IsAnswer, HasOneOutcome, status_of, not_built_yet}
-use Rattle.sb_top.proofs.FileLaws.{one_tree}
+use Rattle.sb_function.proofs.Laws.Files.{one_tree}
 use Rattle.sb_top.proofs.Misread.{never_misread, one_misread}
 
 abbrev Same : Status → Status → List ℕ → List ℕ → Type 0

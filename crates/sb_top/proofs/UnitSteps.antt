@@ -14,13 +14,13 @@ use Rattle.sb_prep.specs.Reading.{IsUnitRefused}
 use Rattle.sb_prep.specs.Stopping.{IsFault}
 use Rattle.sb_prep.specs.declared.fault.UnitFault.{UnitFault}
 use Rattle.sb_prep.specs.declared.fault.UnitFault.TheVariants as stop
-use Rattle.sb_top.specs.declared.lexeme.Piece.{Piece}
+use Rattle.sb_function.specs.declared.lexeme.Piece.{Piece}
 use Rattle.sb_top.specs.declared.sets.SetFault.{SetFault}
 use Rattle.sb_top.specs.declared.sets.SetFault.TheVariants.{Unread, Memory}
-use Rattle.sb_top.specs.Syntax.{FunctionTree}
-use Rattle.sb_top.specs.Grammar.{IsFile}
-use Rattle.sb_top.specs.Grammar.AreFunctions.{ended as nothing}
-use Rattle.sb_top.specs.Lexemes.{pieces_of}
+use Rattle.sb_function.specs.Syntax.{FunctionTree}
+use Rattle.sb_function.specs.Grammar.{IsFile}
+use Rattle.sb_function.specs.Grammar.AreFunctions.{ended as nothing}
+use Rattle.sb_function.specs.Lexemes.{pieces_of}
 use Rattle.sb_top.specs.Sets.{Ending, Whole, Stopped, HasTree, IsRefusedUnit, UnitEndsAs, AreUnits, AreRead, IsRefusedAt, IsUnreadAt, EndAs, HasUnitCause, UnitReadAs, ReadAs}
 use Rattle.sb_top.specs.Sets.IsRefusedUnit.{by_preprocessor}
 use Rattle.sb_top.specs.Sets.AreUnits.{none, next, refused}

@@ -6,11 +6,11 @@ use Rattle.sb_base.specs.declared.tokens.Token.{Token}
 use Rattle.sb_term.specs.AnswerOf.{answer_of}
 use Rattle.sb_top.specs.declared.status.Status.{Status}
 use Rattle.sb_top.specs.declared.status.Status.TheVariants.{Clean, Warned, Refused, Usage}
-use Rattle.sb_top.specs.declared.warning.Warning.{Warning}
-use Rattle.sb_top.specs.Syntax.{FunctionTree}
-use Rattle.sb_top.specs.Walks.{report}
+use Rattle.sb_judge.specs.declared.warning.Warning.{Warning}
+use Rattle.sb_function.specs.Syntax.{FunctionTree}
+use Rattle.sb_judge.specs.Walks.{report}
 use Rattle.sb_top.specs.Texts.{usage, refusal, count_of, report_text}
-use Rattle.sb_top.specs.Contract.{AreSafe}
+use Rattle.sb_picture.specs.Contract.{AreSafe}
 use Rattle.sb_top.specs.Words.{files_of_words}
 use Rattle.sb_top.specs.Sets.{most_names, Ending, Whole, Stopped, AreUnits, AreRead, IsUnreadAt}
 

@@ -5,22 +5,22 @@ use Rattle.sb_base.specs.declared.refusals.Refusal.{Refusal}
 use Rattle.sb_base.specs.declared.tokens.Token.{Token}
 use Rattle.sb_base.specs.Outside.{Rose}
 use Rattle.sb_parse.specs.Read.{IsRefused}
-use Rattle.sb_expr.specs.Reads.{IsRefusedBy}
-use Rattle.sb_declare.specs.Readers.{Declarations}
+use Rattle.sb_lexicon.specs.Outcomes.{IsRefusedBy}
+use Rattle.sb_specifier.specs.Readers.{Declarations}
 use Rattle.sb_decl.specs.Readers.{unit_reader}
 use Rattle.sb_decl.specs.Reads.{FitsUnit}
 use Rattle.sb_prep.specs.Ending.{Ended, Refused}
 use Rattle.sb_prep.specs.Unit.{IsUnit}
 use Rattle.sb_prep.specs.declared.fault.UnitFault.{UnitFault}
 use Rattle.sb_prep.specs.declared.fault.UnitFault.TheVariants as fault
-use Rattle.sb_top.specs.declared.lexeme.Piece.{Piece}
+use Rattle.sb_function.specs.declared.lexeme.Piece.{Piece}
 use Rattle.sb_top.specs.declared.sets.SetFault.{SetFault}
 use Rattle.sb_top.specs.declared.sets.SetFault.TheVariants.{Unread, Memory}
-use Rattle.sb_top.specs.declared.syntax.Function.{Function}
-use Rattle.sb_top.specs.Syntax.{FunctionTree}
-use Rattle.sb_top.specs.Trees.{trees}
-use Rattle.sb_top.specs.Grammar.{IsFile}
-use Rattle.sb_top.specs.Lexemes.{pieces_of}
+use Rattle.sb_function.specs.declared.syntax.Function.{Function}
+use Rattle.sb_function.specs.Syntax.{FunctionTree}
+use Rattle.sb_function.specs.Trees.{trees}
+use Rattle.sb_function.specs.Grammar.{IsFile}
+use Rattle.sb_function.specs.Lexemes.{pieces_of}
 
 -- a run has at most so many names
 abbrev pub most_names : ℕ

@@ -7,13 +7,11 @@ use Rattle.sb_term.specs.declared.sym.Sym.{Sym}
 use Rattle.sb_term.specs.declared.answer.Answer.{Answer}
 use Rattle.sb_term.specs.declared.answer.Answer.TheVariants.{Proved, Refuted, LimitRows, LimitDigits}
 use Rattle.sb_term.specs.Ratio.{Ratio}
-use Rattle.sb_top.specs.declared.picture.Part.{Part}
-use Rattle.sb_top.specs.declared.picture.Part.TheVariants.{Number, Present, Extent, Written}
-use Rattle.sb_top.specs.declared.picture.Label.{Label}
-use Rattle.sb_top.specs.declared.warning.Need.{Need}
-use Rattle.sb_top.specs.declared.warning.Need.TheVariants as need
-use Rattle.sb_top.specs.declared.warning.Warning.{Warning}
-use Rattle.sb_top.specs.Reports.{number_of}
+use Rattle.sb_picture.specs.declared.picture.Part.{Part}
+use Rattle.sb_picture.specs.declared.picture.Part.TheVariants.{Number, Present, Extent, Written}
+use Rattle.sb_picture.specs.declared.picture.Label.{Label}
+use Rattle.sb_judge.specs.declared.warning.Warning.{Warning}
+use Rattle.sb_judge.specs.Reports.{number_of, text_of}
 
 abbrev pub usage : List ℕ
 usage = codes "usage: prefast COMMAND ARGUMENT...\n"
@@ -81,12 +79,6 @@ detail r = if nat_eq r.number 33 then codes ": " ++ left_out r.feature else []
 abbrev pub refusal : List (List ℕ) → Refusal → List ℕ
 refusal files r =
     file_name files r.place.file ++ (codes ":" ++ (decimal r.place.line ++ (codes ":" ++ (decimal r.place.col ++ (codes ": refused " ++ (decimal r.number ++ (codes ": " ++ (refused_for r.number ++ (detail r ++ codes "\n")))))))))
-
-abbrev pub text_of : Need → List ℕ
-text_of need.Present = codes "may be null"
-text_of need.Known = codes "target not known"
-text_of need.FromStart = codes "before the start"
-text_of need.BeforeEnd = codes "past the end"
 
 -- the spelling of a symbol's label; `v` where it has none
 abbrev pub ending_of : Part → List ℕ

@@ -6,10 +6,10 @@ ghost use Rattle.sb_top.specs.Sets.Ending.{Whole};
 ghost use Rattle.sb_top.specs.Outcomes.{IsEndOf, IsDefined};
 
 use crate::command::files_of_words;
-use crate::judging::judged;
-use crate::reply::{Reply, refused, reported, unread, usage};
+use crate::reply::{Reply, refusal_reply, report_reply, unread_reply, usage_reply};
 use crate::sets::{SetFault, read_units, units};
 use sb_base::{FetchFault, Files, Library, Names, Token};
+use sb_judge::reports_of;
 use sb_prep::UnitFault;
 use std::alloc::{AllocError, Global};
 
@@ -24,10 +24,10 @@ fn reply_to_units(
 {
     match read_units(alloc, names, units) {
         Ok(functions) => {
-            let reports = judged(alloc, functions.as_slice())?;
-            reported(alloc, files, names, reports.as_slice())
+            let reports = reports_of(alloc, functions.as_slice())?;
+            report_reply(alloc, files, names, reports.as_slice())
         }
-        Err(SetFault::Unread(place)) => unread(alloc, files, place),
+        Err(SetFault::Unread(place)) => unread_reply(alloc, files, place),
         Err(SetFault::Memory) => Err(AllocError),
     }
 }
@@ -43,13 +43,13 @@ pub(crate) fn reply_to<L: Library>(
     ensures cause { HasReadCause (L.faults lib.old) (L.faults lib.new) result }
 {
     let Some(asked) = files_of_words(words) else {
-        return Ok(usage(alloc)?);
+        return Ok(usage_reply(alloc)?);
     };
     let mut names = Names::new(alloc, u32::MAX);
     let mut files = Files::new(alloc);
     let reply = match units(alloc, &mut names, &mut files, lib, asked) {
         Ok(units) => reply_to_units(alloc, &names, &files, units.as_slice())?,
-        Err(UnitFault::Refused(refusal)) => refused(alloc, &files, refusal)?,
+        Err(UnitFault::Refused(refusal)) => refusal_reply(alloc, &files, refusal)?,
         Err(UnitFault::Read) => return Err(FetchFault::Failed),
         Err(UnitFault::Memory) => return Err(FetchFault::Memory),
     };

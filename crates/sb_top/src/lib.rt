@@ -2,39 +2,11 @@
 #![tactic(auto)]
 
 mod answering;
-mod asking;
 mod command;
-mod copied;
-mod entry;
-mod facts;
-mod files;
-mod judging;
-mod lexeme;
-mod lexemes;
-mod needs;
-mod param_list;
-mod params;
-mod picture;
-mod reading;
-mod regions;
 mod reply;
-mod reports;
 mod sets;
-mod settling;
-mod splits;
-mod statements;
 mod status;
-mod stores;
-mod syntax;
-mod target;
-mod terms;
 mod texts;
-mod tidied;
-mod tidying;
-mod walks;
-mod warning;
-mod words;
-mod written;
 
 ghost use Rattle.std.specs.Prelude.{◌≡◌, ℕ, List, Option, Some, map, string_bytes};
 ghost use Rattle.sb_base.specs.Outside.{Rose};
@@ -42,20 +14,15 @@ ghost use Rattle.sb_top.specs.Stands.{Stands};
 ghost use Rattle.sb_top.specs.Outcomes.{IsDefined, HasOneOutcome, AreSafeIn};
 
 use answering::reply_to;
-pub use files::read_file;
-pub use lexeme::{Lexeme, Piece};
-pub use reading::ReadFault;
 use sb_base::{FetchFault, Library, PutFault, Sink};
 pub use status::Status;
 use std::alloc::Global;
-pub use syntax::{Comparison, Function, Param, ParamKind, Simple, Statement};
 
 /// Does what the words of a command line ask for, with the files of `lib`, and writes what there is to say into `out`.
 ///
 /// `check FILE...` checks the functions of 1 to 256 files, each preprocessed to a unit of its own. Where it ends as
-/// `Clean`, each of them is safe: from each state that its annotations let in, no run follows a null or wild pointer,
-/// leaves its object or reads an unwritten byte. Over a library that tells its content, one text is defined for the
-/// words, under one status.
+/// `Clean`, each of them is safe: from each state that its annotations let in, no run follows a null or wild pointer
+/// or leaves its object. Over a library that tells its content, one text is defined for the words, under one status.
 #[tactic(auto, using(crate::proofs::OneOutcome::one_outcome))]
 pub fn prefast<L: Library, S: Sink>(
     alloc: Global,

@@ -5,8 +5,8 @@ ghost use Rattle.sb_top.specs.Outcomes.{status_of, not_built_yet};
 
 use crate::status::Status;
 use crate::texts::{USAGE, count_of, refusal, report_text};
-use crate::warning::Warning;
 use sb_base::{Files, Names, Place, Refusal};
+use sb_judge::Warning;
 use sqlite_items::Items;
 use std::alloc::{AllocError, Global};
 
@@ -18,7 +18,7 @@ pub(crate) struct Reply {
 }
 
 /// The line that is written where the words are no command.
-pub(crate) fn usage(alloc: Global) -> Result<Reply, AllocError>
+pub(crate) fn usage_reply(alloc: Global) -> Result<Reply, AllocError>
     ensures status { IfOk result (λ reply. reply.status ≡ Status.Usage) }
     ensures text { IfOk result (λ reply. reply.text.items ≡ text.usage) }
 {
@@ -30,7 +30,7 @@ pub(crate) fn usage(alloc: Global) -> Result<Reply, AllocError>
 }
 
 /// A report: clean where it has no warning.
-pub(crate) fn reported(
+pub(crate) fn report_reply(
     alloc: Global,
     files: &Files,
     names: &Names,
@@ -49,7 +49,11 @@ pub(crate) fn reported(
 }
 
 /// The line of a refusal.
-pub(crate) fn refused(alloc: Global, files: &Files, refused: Refusal) -> Result<Reply, AllocError>
+pub(crate) fn refusal_reply(
+    alloc: Global,
+    files: &Files,
+    refused: Refusal,
+) -> Result<Reply, AllocError>
     ensures status { IfOk result (λ reply. reply.status ≡ Status.Refused) }
     ensures text { IfOk result (λ reply. reply.text.items ≡ text.refusal files.now refused) }
 {
@@ -61,7 +65,7 @@ pub(crate) fn refused(alloc: Global, files: &Files, refused: Refusal) -> Result<
 }
 
 /// The refusal of a unit that is no text of the grammar that is checked, at a place.
-pub(crate) fn unread(alloc: Global, files: &Files, place: Place) -> Result<Reply, AllocError>
+pub(crate) fn unread_reply(alloc: Global, files: &Files, place: Place) -> Result<Reply, AllocError>
     ensures status { IfOk result (λ reply. reply.status ≡ Status.Refused) }
     ensures text { IfOk result (λ reply. reply.text.items ≡ text.refusal files.now (not_built_yet place)) }
 {
@@ -70,5 +74,5 @@ pub(crate) fn unread(alloc: Global, files: &Files, place: Place) -> Result<Reply
         place,
         feature: 17,
     };
-    refused(alloc, files, refusal)
+    refusal_reply(alloc, files, refusal)
 }

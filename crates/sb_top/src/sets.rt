@@ -1,21 +1,17 @@
 //! The set of functions that the files of a command line define: their units, and what the grammar reads of them.
 ghost use Rattle.std.specs.Prelude.{◌≡◌, ◌<◌, ◌≤◌, ◌-◌, ◌^◌, Some, length, map, max, slice_get, string_bytes};
 ghost use Rattle.sb_base.specs.Outside.{Rose};
-ghost use Rattle.sb_top.specs.Lexemes.{pieces_of};
+ghost use Rattle.sb_function.specs.Lexemes.{pieces_of};
 ghost use Rattle.sb_top.specs.Sets.{tokens_of, EndAs, ReadAs, UnitEndsAs, UnitReadAs, HasUnitCause};
 
-use crate::files::read_file;
-use crate::lexeme::Piece;
-use crate::lexemes::pieces_of;
-use crate::reading::ReadFault;
-use crate::syntax::Function;
 use sb_base::{Files, Library, Names, Place, Stop, Token};
-use sb_decl::tree;
+use sb_function::{Function, Piece, ReadFault, pieces_of, read_file};
+use sb_grammar::tree;
 use sb_prep::{UnitFault, unit};
 use std::alloc::{AllocError, Global};
 
 /// Why the units of a set were not read: the first that is no text is refused at a place, or memory ran out.
-#[derive(Clone, Copy, Debug, PartialEq, Eq)]
+#[derive(Clone, Copy)]
 pub(crate) enum SetFault {
     Unread(Place),
     Memory,

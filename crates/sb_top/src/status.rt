@@ -1,5 +1,5 @@
 /// How a call of the program ends; its number is the exit status.
-#[derive(Clone, Copy, Debug, PartialEq, Eq)]
+#[derive(Clone, Copy, PartialEq, Eq)]
 pub enum Status {
     /// The report has no warning.
     Clean = 0,

@@ -1,12 +1,11 @@
 //! The lines that are written: refusals, warnings with their reasons, and the last line of a report.
 ghost use Rattle.std.specs.Prelude.{◌≡◌, ◌++◌, List, IfOk, OnOk, codes};
 ghost use Rattle.std.specs.Option.{option_copied};
-ghost use Rattle.sb_top.specs.Reports.{number_of};
 ghost use Rattle.sb_top.specs.Texts as text;
 
-use crate::picture::{Label, Part};
-use crate::warning::{Need, Warning};
 use sb_base::{Files, Names, Refusal};
+use sb_judge::Warning;
+use sb_picture::{Label, Part};
 use sb_term::{Answer, Rat, Sym};
 use sqlite_items::Items;
 use std::alloc::{AllocError, Global};
@@ -106,29 +105,6 @@ pub(crate) fn refusal(alloc: Global, files: &Files, refused: Refusal) -> Result<
     append_detail(&mut line, refused)?;
     line.extend_from_slice(b"\n")?;
     Ok(line)
-}
-
-/// The number of a warning.
-fn number_of(need: Need) -> u16
-    ensures { result ≡ number_of need }
-{
-    match need {
-        Need::Present => 101,
-        Need::Known => 102,
-        Need::FromStart => 103,
-        Need::BeforeEnd => 104,
-    }
-}
-
-fn text_of(need: Need) -> &'static str
-    ensures { result.now ≡ text.text_of need }
-{
-    match need {
-        Need::Present => "may be null",
-        Need::Known => "target not known",
-        Need::FromStart => "before the start",
-        Need::BeforeEnd => "past the end",
-    }
 }
 
 fn ending_of(part: Part) -> &'static str
@@ -241,11 +217,8 @@ fn append_warning(
 ) -> Result<(), AllocError>
     ensures { OnOk result (out.new.items ≡ out.old.items ++ text.warning files.now names.now.texts warning.now) }
 {
-    let (place, number, what) = (
-        warning.place,
-        number_of(warning.need),
-        text_of(warning.need),
-    );
+    let (place, need) = (warning.place, warning.need);
+    let (number, what) = (need.number(), need.text());
     out.extend_from_slice(file_name(files, place.file))?;
     let rest = format!(in alloc; ":{}:{}: warning {number}: {what}\n", place.line, place.col)?;
     out.extend_from_slice(rest.as_bytes())?;

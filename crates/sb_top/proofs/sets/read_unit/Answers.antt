@@ -1,6 +1,6 @@
 use Rattle.std.proofs.Common.{sym, ◌∙◌, subst}
 use Rattle.sb_parse.specs.Read.{IsRefused}
-use Rattle.sb_top.specs.Grammar.{IsFile}
+use Rattle.sb_function.specs.Grammar.{IsFile}
 use Rattle.sb_top.proofs.UnitSteps.{refused_some, refused_within}
 use Rattle.sb_top.proofs.sets.read_unit.Goals as goal
 

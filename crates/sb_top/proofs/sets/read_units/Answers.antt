@@ -1,10 +1,10 @@
 use Rattle.std.proofs.Common.{Global, Err, sym, ap, ◌∙◌, drop, ◌+◌, subst}
 use Rattle.std.proofs.lemmas.Result.{err_from_is_err_and}
 use Rattle.std.proofs.lemmas.List.{map-append}
-use Rattle.sb_top.specs.Grammar.{IsFile}
+use Rattle.sb_function.specs.Grammar.{IsFile}
 use Rattle.sb_top.specs.Sets.{tokens_of, UnitReadAs}
-use Rattle.sb_top.specs.Lexemes.{pieces_of}
-use Rattle.sb_top.specs.Trees.{trees, tree_of}
+use Rattle.sb_function.specs.Lexemes.{pieces_of}
+use Rattle.sb_function.specs.Trees.{trees, tree_of}
 use Rattle.sb_top.proofs.UnitSteps.{ReadsOn, dropped, none_left, reads_stop, reads_next, reads_end}
 use Rattle.sb_top.proofs.sets.read_units.Goals as goal
 

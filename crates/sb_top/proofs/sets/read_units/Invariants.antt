@@ -1,6 +1,6 @@
 use Rattle.std.proofs.Common.{drop}
 use Rattle.sb_top.specs.Sets.{tokens_of}
-use Rattle.sb_top.specs.Trees.{trees}
+use Rattle.sb_function.specs.Trees.{trees}
 use Rattle.sb_top.proofs.UnitSteps.{ReadsOn}
 use Rattle.sb_top.proofs.sets.read_units.Given as goal
 

@@ -1,0 +1,10 @@
+pub mod Pieces
+pub mod Distinct
+pub mod Values
+pub mod Statements
+pub mod Naming
+pub mod Params
+pub mod ParamTexts
+pub mod Settled
+pub mod ParamBack
+pub mod Files

@@ -1,0 +1,9 @@
+pub mod Marks
+pub mod Words
+pub mod Found
+pub mod Loops
+pub mod Statements
+pub mod Headers
+pub mod Params
+pub mod Files
+pub mod Whole

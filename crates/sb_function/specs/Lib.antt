@@ -1,0 +1,11 @@
+pub mod Syntax
+pub mod Lexemes
+pub mod Grammar
+pub mod Marks
+pub mod Params
+pub mod Statements
+pub mod Files
+pub mod Headers
+pub mod Reads
+pub mod Trees
+pub mod Comparisons

@@ -1,0 +1,8 @@
+pub mod Sequel
+pub mod Stored
+pub mod Stores
+pub mod Split
+pub mod Entered
+pub mod Walked
+pub mod Sound
+pub mod Answered

@@ -1,0 +1,4 @@
+pub mod Closing
+pub mod Absorbing
+pub mod Placing
+pub mod Assuming

@@ -1,0 +1,10 @@
+pub mod Memory
+pub mod Machine
+pub mod Contract
+pub mod Describes
+pub mod Pictures
+pub mod Asking
+pub mod Tidying
+pub mod Ends
+pub mod Regions
+pub mod Laws

@@ -1,7 +1,0 @@
-use Rattle.std.proofs.Common.{◌≡◌, ◌++◌, drop}
-use Rattle.std.specs.List.{filter}
-use Rattle.sb_top.specs.Asking.{touches}
-use Rattle.sb_top.proofs.asking.touched.Given as goal
-
-abbrev pub invariant-loop-fact : goal.invariant-loop-fact
-invariant-loop-fact l = l.rows ++ filter (touches l.symbols) (drop l.fact-index l.facts) ≡ filter (touches l.fn.symbols) l.fn.facts

@@ -1,5 +1,0 @@
-use Rattle.sb_top.proofs.HeaderSteps.{named_given}
-use Rattle.sb_top.proofs.param_list.take_size.Goals as goal
-
-pub returns : goal.returns
-returns c = record { read = rw (named_given _ c.args.pieces.now, ← c.peek.ensures.lexeme, ← c.size_at.ensures.name) c.advance.ensures.read }

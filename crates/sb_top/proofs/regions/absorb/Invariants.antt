@@ -1,6 +1,0 @@
-use Rattle.std.proofs.Common.{◌≡◌, ◌-◌, length}
-use Rattle.sb_top.specs.Stores.{absorbed}
-use Rattle.sb_top.proofs.regions.absorb.Given as goal
-
-abbrev pub invariant-loop-turn : goal.invariant-loop-turn
-invariant-loop-turn l = absorbed (length l.fn.region.islands - l._turn) l.region ≡ absorbed (length l.fn.region.islands) l.fn.region

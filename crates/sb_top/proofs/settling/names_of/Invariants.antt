@@ -1,6 +1,0 @@
-use Rattle.std.proofs.Common.{◌≡◌, take}
-use Rattle.sb_top.specs.Params.{written_names}
-use Rattle.sb_top.proofs.settling.names_of.Given as goal
-
-abbrev pub invariant-loop-other : goal.invariant-loop-other
-invariant-loop-other l = l.names.items ≡ written_names (take l.other-index l.fn.written)

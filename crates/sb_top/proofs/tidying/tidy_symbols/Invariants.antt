@@ -1,6 +1,0 @@
-use Rattle.std.proofs.Common.{◌≡◌, drop}
-use Rattle.sb_top.specs.Tidying.{tidied_all}
-use Rattle.sb_top.proofs.tidying.tidy_symbols.Given as goal
-
-abbrev pub invariant-loop-symbol : goal.invariant-loop-symbol
-invariant-loop-symbol l = tidied_all (drop l.symbol-index l.symbols) l.tidied ≡ tidied_all l.fn.symbols l.fn.tidied

@@ -1,9 +1,0 @@
-use Rattle.std.proofs.Common.{◌≡◌, drop, None}
-use Rattle.sb_term.specs.Asks.{run}
-use Rattle.sb_top.specs.Walks.{walk}
-use Rattle.sb_top.specs.Statements.{in_order}
-use Rattle.sb_top.specs.Trees.{plains}
-use Rattle.sb_top.proofs.walks.+walk.Given as goal
-
-abbrev pub invariant-walk_list-loop-statement : goal.invariant-walk_list-loop-statement
-invariant-walk_list-loop-statement g l = (g.V.Decide.stop l.judge ≡ None) × (run g.V.Decide.stop g.V.Decide.gives g.V.Decide.after (walk (in_order (plains (drop l.statement-index l.statements))) l.current l.report.items) l.judge ≡ run g.V.Decide.stop g.V.Decide.gives g.V.Decide.after (walk (in_order (plains l.fn.statements)) l.fn.pictures l.fn.report.items) l.fn.judge)

@@ -1,5 +1,0 @@
-use Rattle.sb_top.proofs.WordSteps.{right_given}
-use Rattle.sb_top.proofs.words.take_right.Goals as goal
-
-pub returns : goal.returns
-returns c = record { read = rw (right_given c.args.params.now c.args.left c.args.pieces.now, ← c.peek.ensures.lexeme, ← c.right_at.ensures.right) c.advance.ensures.read }

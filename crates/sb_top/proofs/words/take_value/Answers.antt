@@ -1,5 +1,0 @@
-use Rattle.sb_top.proofs.WordSteps.{value_given}
-use Rattle.sb_top.proofs.words.take_value.Goals as goal
-
-pub returns : goal.returns
-returns c = record { read = rw (value_given c.args.params.now c.args.pieces.now, ← c.peek.ensures.lexeme, ← c.value_at.ensures.value) c.advance.ensures.read }
