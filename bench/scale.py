@@ -4,7 +4,9 @@
 Usage: scale.py BINARY   (as crates/prefast/out/prefast)
 Checks texts of one form in three sizes each, and prints the time and how much faster than the text it grew (1.0: as the
 text): functions that cycle a bounded store and one that is off by one; a file of comments, up to 4 MiB; uses of short
-macros, up to 100,000; 64 headers, each included by the one before it, up to 4 MiB in all.
+macros, up to 100,000; 64 headers, each included by the one before it, up to 4 MiB in all. Then forms whose time is known
+to grow as the square of the text: declarators behind as many annotations, typedef names that are defined and used, macros
+that are defined and used, warnings in one function.
 """
 import os
 import subprocess
@@ -20,6 +22,7 @@ REPLACED = (
     "void f{k}(_Out_writes_(n) int *a, unsigned int n, unsigned int i)\n"
     "{{ if (SAME(i) < SAME(n)) a[SAME(i)] = ONE; if (SAME(i) < SAME(n)) a[SAME(i)] = ONE; }}\n"
 )
+UNBUILT = "refused 33: outside the profile: not built yet"
 FILE_BYTES = 4 * 1024 * 1024
 DEPTH = 64
 
@@ -42,6 +45,22 @@ def includes(size):
     return files | {"t.c": '#include "h1.h"\n'}
 
 
+def declarators(count):
+    return {"t.c": "_Check_return_ " * count + "int " + ", ".join(f"f{k}(int n)" for k in range(count)) + ";\n"}
+
+
+def typedefs(count):
+    return {"t.c": "".join(f"typedef int t{k};\n" for k in range(count)) + "".join(f"t{k} x{k};\n" for k in range(count))}
+
+
+def definitions(count):
+    return {"t.c": "".join(f"#define M{k} 1\n" for k in range(count)) + "".join(f"int x{k} = M{k};\n" for k in range(count))}
+
+
+def warnings(count):
+    return {"t.c": "void f(_Out_writes_(n) int *a, unsigned int n)\n{\n" + "a[n] = 1;\n" * count + "}\n"}
+
+
 def seconds(binary, files, wanted):
     with tempfile.TemporaryDirectory() as folder:
         for name, text in files.items():
@@ -50,7 +69,7 @@ def seconds(binary, files, wanted):
         start = time.monotonic()
         run = subprocess.run([binary, "check", "t.c"], cwd=folder, capture_output=True, check=False, timeout=600)
         taken = time.monotonic() - start
-    last = run.stdout.decode("ascii").splitlines()[-1]
+    last = (run.stdout.decode("ascii").splitlines() or [""])[-1]
     if last != wanted:
         sys.exit(f"status {run.returncode}, last line {last!r}, wanted {wanted!r}")
     return taken
@@ -61,6 +80,10 @@ SERIES = (
     ("bytes of comments", comments, (FILE_BYTES // 4, FILE_BYTES // 2, FILE_BYTES), lambda n: "0 warnings in 0 functions"),
     ("uses of macros", macros, (10000, 50000, 100000), lambda n: f"0 warnings in {n // 8} functions"),
     ("bytes of 64 nested headers", includes, (FILE_BYTES // 4, FILE_BYTES // 2, FILE_BYTES), lambda n: "0 warnings in 0 functions"),
+    ("declarators behind annotations", declarators, (250, 500, 1000), lambda n: f"t.c:1:1: {UNBUILT}"),
+    ("typedef names", typedefs, (2000, 4000, 8000), lambda n: f"t.c:1:1: {UNBUILT}"),
+    ("macros", definitions, (5000, 10000, 20000), lambda n: f"t.c:{n + 1}:1: {UNBUILT}"),
+    ("warnings in a function", warnings, (500, 1000, 2000), lambda n: f"{n} warnings in 1 functions"),
 )
 
 
