@@ -125,7 +125,8 @@ impl<'a, R: Print> OutSink<'a, R> {
 /// Writes the whole of `piece`. A write that takes nothing is a fault.
 fn write_whole<W: Write>(out: &mut W, piece: &[u8]) -> Result<(), PutFault>
     ensures whole { OnOk result (Writes (W.contents out.old) (W.contents out.new) piece.now) }
-    ensures part { OnErr result ((left : List ℕ) × HasPut (W.contents out.old) (W.contents out.new) piece.now left) }
+    ensures part { OnErr result
+        ((left : List ℕ) × HasPut (W.contents out.old) (W.contents out.new) piece.now left) }
     ensures failed { IfErr result (λ fault. fault ≡ PutFault.Failed) }
 {
     let mut rest = piece;

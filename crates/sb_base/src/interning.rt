@@ -79,7 +79,9 @@ impl Names {
     pub fn intern(&mut self, alloc: Global, text: &[u8]) -> Result<Name, NamesFault>
         ensures number { IfOk result (λ name. slice_get self.new.texts name.0 ≡ Some text.now) }
         ensures texts { OnOk result (self.new.texts ≡ with_text self.old.texts text.now) }
-        ensures full { IsErrOf result NamesFault.Full ↔ ((holds_text self.old.texts text.now ≡ false) × (self.old.limit ≤ length self.old.texts)) }
+        ensures full { IsErrOf result NamesFault.Full
+            ↔ ((holds_text self.old.texts text.now ≡ false)
+            × (self.old.limit ≤ length self.old.texts)) }
         ensures err { OnErr result (self.new ≡ self.old) }
         ensures limit { self.new.limit ≡ self.old.limit }
         ensures within { length self.new.texts ≤ self.new.limit }

@@ -35,7 +35,8 @@ impl Calls {
         ensures fails { result ≡ fails_at self.old.failing.items self.old.count }
         ensures failing { self.new.failing.items ≡ self.old.failing.items }
         ensures count { self.new.count ≡ counted self.old.count }
-        ensures faults { self.new.faults ≡ faults_after self.old.failing.items self.old.count self.old.faults }
+        ensures faults { self.new.faults ≡ faults_after self.old.failing.items self.old.count
+            self.old.faults }
         ensures rose { IsTrue result → Rose self.old.faults self.new.faults }
         ensures grows { self.old.faults ≤ self.new.faults }
     {
@@ -67,7 +68,13 @@ impl Model for MemLibrary {
 
 impl MemLibrary {
     pub fn new(files: Vec<(Vec<u8>, Vec<u8>)>, failing: Vec<u64>) -> MemLibrary
-        ensures { result ≡ record { files = contents files.items; failing = failing.items; calls = 0; faults = 0 } }
+        ensures { result ≡ record {
+          files = contents files.items;
+          failing = failing.items;
+          calls
+              = 0;
+          faults = 0;
+        } }
     {
         MemLibrary {
             files,
@@ -110,8 +117,10 @@ impl Library for MemLibrary {
         ensures held { Some (held_in self.new.files) ≡ Some (held_in self.old.files) }
         ensures cause { HasFetchCause self.old.faults self.new.faults result }
         ensures appended { Appends result limit into.old.items into.new.items }
-        ensures exact { IsExact (Some (held_in self.old.files)) name.now limit into.old.items into.new.items result }
-        ensures fails { IsErrOf result FetchFault.Failed ↔ IsTrue (fails_at self.old.failing self.old.calls) }
+        ensures exact { IsExact (Some (held_in self.old.files)) name.now limit into.old.items
+            into.new.items result }
+        ensures fails { IsErrOf result FetchFault.Failed
+            ↔ IsTrue (fails_at self.old.failing self.old.calls) }
         ensures after { self.new ≡ after_fetch self.old }
     {
         if self.calls.next_fails() {
@@ -148,7 +157,15 @@ impl Model for MemSink {
 
 impl MemSink {
     pub fn new(buffer: Vec<u8>, failing: Vec<u64>) -> MemSink
-        ensures { result ≡ record { content = buffer.items; room = vec_capacity buffer - vec_len buffer; failing = failing.items; calls = 0; faults = 0 } }
+        ensures { result ≡ record {
+          content = buffer.items;
+          room
+              = vec_capacity buffer - vec_len buffer;
+          failing = failing.items;
+          calls = 0;
+          faults
+              = 0;
+        } }
     {
         MemSink {
             buffer,
@@ -180,14 +197,17 @@ impl Sink for MemSink {
     fn put(&mut self, piece: &[u8]) -> Result<(), PutFault>
         ensures puts { PutsPiece (Some self.old.content) (Some self.new.content) piece.now result }
         ensures cause { HasPutCause self.old.faults self.new.faults result }
-        ensures fails { IsErrOf result PutFault.Failed ↔ IsTrue (fails_at self.old.failing self.old.calls) }
-        ensures memory_only_without_room { IsErrOf result PutFault.Memory → self.old.room < length piece.now }
+        ensures fails { IsErrOf result PutFault.Failed
+            ↔ IsTrue (fails_at self.old.failing self.old.calls) }
+        ensures memory_only_without_room { IsErrOf result PutFault.Memory → self.old.room
+            < length piece.now }
         ensures unchanged { OnErr result (self.new.content ≡ self.old.content) }
         ensures room { OnOk result (self.old.room ≤ self.new.room + length piece.now) }
         ensures kept_room { OnErr result (self.old.room ≤ self.new.room) }
         ensures failing { self.new.failing ≡ self.old.failing }
         ensures calls { self.new.calls ≡ counted self.old.calls }
-        ensures faults { self.new.faults ≡ faults_after self.old.failing self.old.calls self.old.faults }
+        ensures faults { self.new.faults ≡ faults_after self.old.failing self.old.calls
+            self.old.faults }
     {
         if self.calls.next_fails() {
             return Err(PutFault::Failed);

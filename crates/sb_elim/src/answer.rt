@@ -81,7 +81,9 @@ fn refuted(alloc: Global, query: &Query, state: State) -> Result<Answer, AllocEr
 
 /// The answer where a row that holds nowhere is found. There is no memory for 2^64 rows.
 fn proved(alloc: Global, query: &Query, steps: &[Step]) -> Result<Answer, AllocError>
-    ensures { IfOk result (λ x. x ≡ Answer.Proved (record { list = pruned_steps (length query.now.facts + 1) (reverse steps.now) })) }
+    ensures { IfOk result
+        (λ x. x ≡ Answer.Proved
+        (record { list = pruned_steps (length query.now.facts + 1) (reverse steps.now) })) }
 {
     let count = query.facts.len() as u64;
     let base = count.checked_add(1).ok_or(AllocError)?;

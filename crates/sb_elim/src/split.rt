@@ -16,9 +16,15 @@ struct Sides {
 
 /// Adds a row to its side.
 fn add(sides: &mut Sides, symbol: u64, row: Numbered) -> Result<(), AllocError>
-    ensures positive { OnOk result (sides.new.positive.items ≡ sides.old.positive.items ++ filter (is_positive_in symbol) (row ∷ [])) }
-    ensures negative { OnOk result (sides.new.negative.items ≡ sides.old.negative.items ++ filter (is_negative_in symbol) (row ∷ [])) }
-    ensures without { OnOk result (sides.new.without.items ≡ sides.old.without.items ++ filter (is_without symbol) (row ∷ [])) }
+    ensures positive { OnOk result
+        (sides.new.positive.items ≡ sides.old.positive.items
+        ++ filter (is_positive_in symbol) (row ∷ [])) }
+    ensures negative { OnOk result
+        (sides.new.negative.items ≡ sides.old.negative.items
+        ++ filter (is_negative_in symbol) (row ∷ [])) }
+    ensures without { OnOk result
+        (sides.new.without.items ≡ sides.old.without.items
+        ++ filter (is_without symbol) (row ∷ [])) }
 {
     let coefficient = coefficient(symbol, &row);
     if coefficient > 0 {

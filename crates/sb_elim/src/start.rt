@@ -67,7 +67,10 @@ pub fn run(
     symbols: Vec<u64>,
 ) -> Result<Outcome, AllocError>
     requires { state.old ≡ empty (length query.now.facts + 1) }
-    ensures { IfOk result (λ o. progress o state.new ≡ on_going (started query.now) (λ st. eliminate_all (length symbols.items) symbols.items st)) }
+    ensures { IfOk result
+        (λ o. progress o state.new
+        ≡ on_going (started query.now)
+        (λ st. eliminate_all (length symbols.items) symbols.items st)) }
 {
     match start(alloc, state, query)? {
         Outcome::Going => state.eliminate_all(alloc, symbols),

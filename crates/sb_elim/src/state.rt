@@ -78,7 +78,9 @@ impl State {
 
     /// Adds a step and gives the number of its row. There is no memory for 2^64 rows.
     fn add_step(&mut self, step: Step) -> Result<u64, AllocError>
-        ensures { IfOk result (λ n. (n ≡ self.old.base + length self.old.steps) × (self.new ≡ with_step_of step self.old)) }
+        ensures { IfOk result
+            (λ n. (n ≡ self.old.base + length self.old.steps)
+            × (self.new ≡ with_step_of step self.old)) }
     {
         let number = self.base + self.steps.len() as u64;
         if number == u64::MAX {
@@ -120,7 +122,8 @@ impl State {
     ) -> Result<Outcome, AllocError>
         requires positive { is_positive symbol x.now ≡ true }
         requires negative { is_negative symbol y.now ≡ true }
-        ensures { IfOk result (λ o. progress o self.new ≡ combined_rows symbol x.now y.now self.old) }
+        ensures { IfOk result
+            (λ o. progress o self.new ≡ combined_rows symbol x.now y.now self.old) }
     {
         let (b, a) = factors(size(symbol, x), size(symbol, y));
         self.take_step(alloc, b, x, a, y)
@@ -135,7 +138,8 @@ impl State {
     ) -> Result<Outcome, AllocError>
         requires positive { is_positive symbol x.now ≡ true }
         requires negative { All (λ y. is_negative symbol y ≡ true) ys.now }
-        ensures { IfOk result (λ o. progress o self.new ≡ each_combined symbol x.now ys.now self.old) }
+        ensures { IfOk result
+            (λ o. progress o self.new ≡ each_combined symbol x.now ys.now self.old) }
     {
         for y in ys {
             match self.combine(alloc, symbol, x, y)? {
@@ -155,7 +159,8 @@ impl State {
     ) -> Result<Outcome, AllocError>
         requires positive { All (λ x. is_positive symbol x ≡ true) xs.now }
         requires negative { All (λ y. is_negative symbol y ≡ true) ys.now }
-        ensures { IfOk result (λ o. progress o self.new ≡ all_combined symbol xs.now ys.now self.old) }
+        ensures { IfOk result
+            (λ o. progress o self.new ≡ all_combined symbol xs.now ys.now self.old) }
     {
         for x in xs {
             match self.combine_each(alloc, symbol, x, ys)? {
@@ -195,7 +200,9 @@ impl State {
 
     /// Eliminates the symbols one after another.
     pub fn eliminate_all(&mut self, alloc: Global, symbols: Vec<u64>) -> Result<Outcome, AllocError>
-        ensures { IfOk result (λ o. progress o self.new ≡ all_eliminated (length symbols.items) symbols.items self.old) }
+        ensures { IfOk result
+            (λ o. progress o self.new ≡ all_eliminated (length symbols.items) symbols.items
+            self.old) }
     {
         let mut left = symbols;
         for turn in (0..left.len()).rev() {

@@ -40,7 +40,8 @@ pub fn combined(
 ) -> Result<Option<Term>, AllocError>
     requires a { a < 2 ^ 40 }
     requires b { b < 2 ^ 40 }
-    ensures { IfOk result (λ o. o ≡ formed (combined_of (pos a) x.now.term (pos b) y.now.term (pos 0))) }
+    ensures { IfOk result
+        (λ o. o ≡ formed (combined_of (pos a) x.now.term (pos b) y.now.term (pos 0))) }
 {
     match x.term.combine(alloc, a, &y.term, b) {
         Ok(term) => Ok(Some(term)),

@@ -69,7 +69,8 @@ fn plus_other(known: &[(Sym, Rat)], symbol: u64, sum: Rat, entry: Entry) -> Opti
 /// A rational plus the products of all entries but that of `symbol`.
 fn others_onto(known: &[(Sym, Rat)], symbol: u64, first: Rat, entries: &[Entry]) -> Option<Rat>
     requires { are_narrow entries.now ≡ true }
-    ensures { result ≡ products_added known.now first (filter (λ e. not (e.symbol == symbol)) entries.now) }
+    ensures { result ≡ products_added known.now first
+        (filter (λ e. not (e.symbol == symbol)) entries.now) }
 {
     let mut sum = first;
     for entry in entries {
@@ -165,7 +166,8 @@ fn value_below(known: &[(Sym, Rat)], symbol: u64, negative: &[Numbered]) -> Opti
 
 /// Values for the symbols of rows set aside, the last set aside first.
 pub fn values(alloc: Global, asides: Vec<Aside>) -> Result<Option<Vec<(Sym, Rat)>>, AllocError>
-    ensures { IfOk result (λ o. option_map (λ v. v.items) o ≡ all_values (reverse asides.items) []) }
+    ensures { IfOk result
+        (λ o. option_map (λ v. v.items) o ≡ all_values (reverse asides.items) []) }
 {
     let mut known = Vec::new(alloc);
     let mut left = asides;
@@ -184,7 +186,11 @@ pub fn values(alloc: Global, asides: Vec<Aside>) -> Result<Option<Vec<(Sym, Rat)
 }
 
 fn value_or_zero(known: &[(Sym, Rat)], symbol: u64) -> (Sym, Rat)
-    ensures { result ≡ (record { 0 = symbol }, unwrap_or (value_in_list known.now symbol) zero_ratio) }
+    ensures { result ≡ (
+      record { 0 = symbol },
+      unwrap_or (value_in_list known.now symbol)
+          zero_ratio,
+    ) }
 {
     (Sym(symbol), value_in(known, symbol).unwrap_or(zero()))
 }

@@ -249,7 +249,8 @@ pub fn is_assignment(lexicon: &Lexicon, token: &Token) -> bool
 
 /// Whether the next token is `=` or the like.
 pub fn is_assignment_next(lexicon: &Lexicon, tokens: &[Token]) -> bool
-    ensures { result ≡ at_next (λ t. is_some (spec.assignment_of (meant lexicon.now) t)) tokens.now }
+    ensures { result ≡ at_next (λ t. is_some (spec.assignment_of (meant lexicon.now) t))
+        tokens.now }
 {
     match tokens.first() {
         Some(token) => is_assignment(lexicon, token),
@@ -263,7 +264,8 @@ pub fn take_operator<'a>(
     tokens: &'a [Token],
 ) -> Result<Read<'a, (BinaryOp, Place)>, ReadFault>
     requires { tighter < 10 }
-    ensures { Gives (taken reader.unexpected (spec.operator_of (meant lexicon.now) (suc tighter)) tokens.now) result }
+    ensures { Gives (taken reader.unexpected (spec.operator_of (meant lexicon.now) (suc tighter))
+        tokens.now) result }
 {
     match tokens.split_first() {
         Some((token, rest)) => take(operator_of(lexicon, tighter, token), rest),
@@ -275,7 +277,8 @@ pub fn take_prefix<'a>(
     lexicon: &Lexicon,
     tokens: &'a [Token],
 ) -> Result<Read<'a, (UnaryOp, Place)>, ReadFault>
-    ensures { Gives (taken reader.unexpected (spec.prefix_of (meant lexicon.now)) tokens.now) result }
+    ensures { Gives (taken reader.unexpected (spec.prefix_of (meant lexicon.now)) tokens.now)
+        result }
 {
     match tokens.split_first() {
         Some((token, rest)) => take(prefix_of(lexicon, token), rest),
@@ -299,7 +302,8 @@ pub fn take_assignment<'a>(
     lexicon: &Lexicon,
     tokens: &'a [Token],
 ) -> Result<Read<'a, (Option<BinaryOp>, Place)>, ReadFault>
-    ensures { Gives (taken reader.unexpected (spec.assignment_of (meant lexicon.now)) tokens.now) result }
+    ensures { Gives (taken reader.unexpected (spec.assignment_of (meant lexicon.now)) tokens.now)
+        result }
 {
     match tokens.split_first() {
         Some((token, rest)) => take(assignment_of(lexicon, token), rest),
@@ -311,7 +315,8 @@ pub fn take_suffix<'a>(
     lexicon: &Lexicon,
     tokens: &'a [Token],
 ) -> Result<Read<'a, Suffix>, ReadFault>
-    ensures { Gives (taken reader.unexpected (spec.suffix_of (meant lexicon.now)) tokens.now) result }
+    ensures { Gives (taken reader.unexpected (spec.suffix_of (meant lexicon.now)) tokens.now)
+        result }
 {
     match tokens.split_first() {
         Some((token, rest)) => take(suffix_of(lexicon, token), rest),

@@ -165,7 +165,8 @@ pub fn take_mark<'a>(
     mark: Mark,
     tokens: &'a [Token],
 ) -> Result<Read<'a, Token>, ReadFault>
-    ensures { Gives (token reader.unexpected (spec.is_mark (meant lexicon.now) mark) tokens.now) result }
+    ensures { Gives (token reader.unexpected (spec.is_mark (meant lexicon.now) mark) tokens.now)
+        result }
 {
     match tokens.split_first() {
         Some((first, rest)) if is_mark(lexicon, mark, first) => Ok(Read {
@@ -182,7 +183,8 @@ pub fn take_keyword<'a>(
     keyword: Keyword,
     tokens: &'a [Token],
 ) -> Result<Read<'a, Token>, ReadFault>
-    ensures { Gives (token reader.unexpected (spec.is_keyword (meant lexicon.now) keyword) tokens.now) result }
+    ensures { Gives (token reader.unexpected (spec.is_keyword (meant lexicon.now) keyword)
+        tokens.now) result }
 {
     match tokens.split_first() {
         Some((first, rest)) if is_keyword(lexicon, keyword, first) => Ok(Read {
@@ -205,7 +207,8 @@ pub fn take_member<'a>(
     lexicon: &Lexicon,
     tokens: &'a [Token],
 ) -> Result<Read<'a, (Name, Place)>, ReadFault>
-    ensures { Gives (taken reader.unexpected (reader.member_of (meant lexicon.now)) tokens.now) result }
+    ensures { Gives (taken reader.unexpected (reader.member_of (meant lexicon.now)) tokens.now)
+        result }
 {
     match tokens.split_first() {
         Some((token, rest)) => take(member_of(lexicon, token), rest),
@@ -218,7 +221,8 @@ pub fn take_type_name<'a>(
     lexicon: &Lexicon,
     tokens: &'a [Token],
 ) -> Result<Read<'a, Token>, ReadFault>
-    ensures { Gives (token reader.unexpected (spec.is_type_name (meant lexicon.now)) tokens.now) result }
+    ensures { Gives (token reader.unexpected (spec.is_type_name (meant lexicon.now)) tokens.now)
+        result }
 {
     match tokens.split_first() {
         Some((first, rest)) if is_type_name(lexicon, first) => Ok(Read {

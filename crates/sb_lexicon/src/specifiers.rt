@@ -100,7 +100,8 @@ pub fn is_complex_next(lexicon: &Lexicon, said: Said, tokens: &[Token]) -> bool
 }
 
 pub fn is_tag_word_next(lexicon: &Lexicon, said: Said, word: Keyword, tokens: &[Token]) -> bool
-    ensures { result ≡ at_next (spec.is_tag_word (meant lexicon.now) (plain_said said) word) tokens.now }
+    ensures { result ≡ at_next (spec.is_tag_word (meant lexicon.now) (plain_said said) word)
+        tokens.now }
 {
     match tokens.first() {
         Some(token) => is_keyword(lexicon, word, token) && said.is_nothing(),
@@ -123,7 +124,9 @@ fn word<'a>(
     so_far: Specifiers,
     tokens: &'a [Token],
 ) -> Result<Read<'a, Specifiers>, ReadFault>
-    ensures read { GivesAs plain_specifiers (taken lexeme.unexpected (spec.word_after (meant lexicon.now) (plain_specifiers so_far)) tokens.now) result }
+    ensures read { GivesAs plain_specifiers
+        (taken lexeme.unexpected (spec.word_after (meant lexicon.now) (plain_specifiers so_far))
+        tokens.now) result }
     ensures same { IfOk result (λ r. r.value.constant ≡ so_far.constant) }
 {
     let Some((token, rest)) = tokens.split_first() else {
@@ -150,7 +153,8 @@ fn word_or_lacking<'a>(
     so_far: Specifiers,
     tokens: &'a [Token],
 ) -> Result<Read<'a, Specifiers>, ReadFault>
-    ensures read { GivesAs plain_specifiers (word_or_lacking (meant lexicon.now) (plain_specifiers so_far) tokens.now) result }
+    ensures read { GivesAs plain_specifiers
+        (word_or_lacking (meant lexicon.now) (plain_specifiers so_far) tokens.now) result }
     ensures same { IfOk result (λ r. r.value.constant ≡ so_far.constant) }
 {
     if is_floating_next(lexicon, so_far.said, tokens) {
@@ -174,7 +178,8 @@ fn structure<'a>(
     so_far: Specifiers,
     tokens: &'a [Token],
 ) -> Result<Read<'a, Specifiers>, ReadFault>
-    ensures read { GivesAs plain_specifiers (structure (meant lexicon.now) (plain_specifiers so_far) tokens.now) result }
+    ensures read { GivesAs plain_specifiers
+        (structure (meant lexicon.now) (plain_specifiers so_far) tokens.now) result }
     ensures same { IfOk result (λ r. r.value.constant ≡ so_far.constant) }
 {
     let word = take_keyword(lexicon, Keyword::Struct, tokens)?;
@@ -199,7 +204,8 @@ fn enumeration<'a>(
     so_far: Specifiers,
     tokens: &'a [Token],
 ) -> Result<Read<'a, Specifiers>, ReadFault>
-    ensures read { GivesAs plain_specifiers (enumeration (meant lexicon.now) (plain_specifiers so_far) tokens.now) result }
+    ensures read { GivesAs plain_specifiers
+        (enumeration (meant lexicon.now) (plain_specifiers so_far) tokens.now) result }
     ensures same { IfOk result (λ r. r.value.constant ≡ so_far.constant) }
 {
     let word = take_keyword(lexicon, Keyword::Enum, tokens)?;
@@ -225,7 +231,9 @@ fn constant<'a>(
     below: u32,
     tokens: &'a [Token],
 ) -> Result<Read<'a, Specifiers>, ReadFault>
-    ensures read { GivesAs plain_specifiers (constant (meant lexicon.now) (lexeme.is_zero below) (plain_specifiers so_far) tokens.now) result }
+    ensures read { GivesAs plain_specifiers
+        (constant (meant lexicon.now) (lexeme.is_zero below) (plain_specifiers so_far) tokens.now)
+        result }
     ensures room { IfOk result (λ r. r.value.constant ≡ true → 0 < below) }
 {
     if below == 0 {
@@ -250,7 +258,9 @@ fn specified<'a>(
     tokens: &'a [Token],
 ) -> Result<Read<'a, Specifiers>, ReadFault>
     requires room { so_far.constant ≡ true → 0 < below }
-    ensures read { GivesAs plain_specifiers (spec.specified (meant lexicon.now) (lexeme.is_zero below) (plain_specifiers so_far) tokens.now) result }
+    ensures read { GivesAs plain_specifiers
+        (spec.specified (meant lexicon.now) (lexeme.is_zero below) (plain_specifiers so_far)
+        tokens.now) result }
     ensures room { IfOk result (λ r. r.value.constant ≡ true → 0 < below) }
 {
     if is_keyword_next(lexicon, Keyword::Const, tokens) {
@@ -280,7 +290,10 @@ pub fn keyword_specifiers<'a>(
     tokens: &'a [Token],
 ) -> Result<Read<'a, Specifiers>, ReadFault>
     requires room { first.constant ≡ true → 0 < below }
-    ensures read { GivesAs plain_specifiers (looped (lex.is_type_word (meant lexicon.now)) (spec.specified (meant lexicon.now) (lexeme.is_zero below)) (plain_specifiers first) tokens.now) result }
+    ensures read { GivesAs plain_specifiers
+        (looped (lex.is_type_word (meant lexicon.now))
+        (spec.specified (meant lexicon.now) (lexeme.is_zero below)) (plain_specifiers first)
+        tokens.now) result }
     ensures room { IfOk result (λ r. r.value.constant ≡ true → 0 < below) }
 {
     let mut found = Read {
@@ -305,7 +318,9 @@ pub fn defined<'a>(
     tokens: &'a [Token],
 ) -> Result<Read<'a, Specifiers>, ReadFault>
     requires room { so_far.constant ≡ true → 0 < below }
-    ensures read { GivesAs plain_specifiers (spec.defined (meant lexicon.now) (lexeme.is_zero below) (plain_specifiers so_far) tokens.now) result }
+    ensures read { GivesAs plain_specifiers
+        (spec.defined (meant lexicon.now) (lexeme.is_zero below) (plain_specifiers so_far)
+        tokens.now) result }
     ensures room { IfOk result (λ r. r.value.constant ≡ true → 0 < below) }
 {
     if !names_type_next(lexicon, so_far.said, tokens) {

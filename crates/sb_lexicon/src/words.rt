@@ -219,7 +219,8 @@ impl TypeWords {
 
     /// Whether `double` and `_Complex` may follow: `long` alone, or no word.
     pub fn may_be_floating(self) -> bool
-        ensures { result ≡ (spec.is_no_sign self.sign && (reader.is_only_long self.length && spec.is_no_kind self.kind)) }
+        ensures { result ≡ (spec.is_no_sign self.sign
+            && (reader.is_only_long self.length && spec.is_no_kind self.kind)) }
     {
         is_no_sign(self.sign) && matches!(self.length, Length::Long) && is_no_kind(self.kind)
     }

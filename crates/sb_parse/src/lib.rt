@@ -16,7 +16,8 @@ ghost use Rattle.sb_parse.specs.Read.{HasOneTree, IsLongest, IsRefused, tested};
 /// refuses a list, no text goes on with the token at which it does; the same of a list that has to be read whole;
 /// and a list is refused at one place, and never where it is a text.
 pub fn laws()
-    ensures one_tree { (is : List ℕ → ℕ → Bool) (more : ℕ → ℕ → Bool) (p : Parser ℕ ℕ) → Lawful (tested is) more p → HasOneTree (tested is) }
+    ensures one_tree { (is : List ℕ → ℕ → Bool) (more : ℕ → ℕ → Bool) (p : Parser ℕ ℕ)
+        → Lawful (tested is) more p → HasOneTree (tested is) }
     ensures longest { (is : List ℕ → ℕ → Bool) (more : ℕ → ℕ → Bool) (p : Parser ℕ ℕ) → Lawful (tested is) more p →
         (ts : List ℕ) (a : ℕ) (rest : List ℕ) → p ts ≡ done a rest → IsLongest (tested is) ts a rest }
     ensures refused { (is : List ℕ → ℕ → Bool) (more : ℕ → ℕ → Bool) (p : Parser ℕ ℕ) → Lawful (tested is) more p →
@@ -25,6 +26,8 @@ pub fn laws()
         (n : ℕ) (ts : List ℕ) (a : ℕ) → tested is ts a → whole n p ts ≡ done a [] }
     ensures whole_refused { (is : List ℕ → ℕ → Bool) (more : ℕ → ℕ → Bool) (p : Parser ℕ ℕ) → Lawful (tested is) more p →
         (n : ℕ) (ts : List ℕ) (m left : ℕ) → whole n p ts ≡ stop m left → IsRefused (tested is) ts left }
-    ensures one_place { (is : List ℕ → ℕ → Bool) (ts : List ℕ) (left other : ℕ) → IsRefused (tested is) ts left → IsRefused (tested is) ts other → left ≡ other }
-    ensures none_is_refused { (is : List ℕ → ℕ → Bool) (ts : List ℕ) (left a : ℕ) → IsRefused (tested is) ts left → tested is ts a → ⊥ }
+    ensures one_place { (is : List ℕ → ℕ → Bool) (ts : List ℕ) (left other : ℕ)
+        → IsRefused (tested is) ts left → IsRefused (tested is) ts other → left ≡ other }
+    ensures none_is_refused { (is : List ℕ → ℕ → Bool) (ts : List ℕ) (left a : ℕ)
+        → IsRefused (tested is) ts left → tested is ts a → ⊥ }
 {}

@@ -64,7 +64,8 @@ fn front_of_both<'a>(
     requires same { x.symbol ≡ y.symbol }
     requires x { is_narrow x.coefficient ≡ true }
     requires y { is_narrow y.coefficient ≡ true }
-    ensures front { IsFront a b (x ∷ more_xs.now) (y ∷ more_ys.now) result.symbol result.coefficient result.xs.now result.ys.now }
+    ensures front { IsFront a b (x ∷ more_xs.now) (y ∷ more_ys.now) result.symbol result.coefficient
+        result.xs.now result.ys.now }
     ensures xs { result.xs.now ≡ more_xs.now }
     ensures ys { result.ys.now ≡ more_ys.now }
 {
@@ -82,7 +83,8 @@ fn front_of<'a>(a: i128, xs: &'a [Entry], b: i128, ys: &'a [Entry]) -> Option<Fr
     requires xs { are_narrow xs.now ≡ true }
     requires ys { are_narrow ys.now ≡ true }
     ensures none { IfNone result (merged a b xs.now ys.now ≡ []) }
-    ensures some { IfSome result (λ f. IsFront a b xs.now ys.now f.symbol f.coefficient f.xs.now f.ys.now) }
+    ensures some { IfSome result
+        (λ f. IsFront a b xs.now ys.now f.symbol f.coefficient f.xs.now f.ys.now) }
     ensures narrow_xs { IfSome result (λ f. are_narrow f.xs.now ≡ true) }
     ensures narrow_ys { IfSome result (λ f. are_narrow f.ys.now ≡ true) }
 {
@@ -136,7 +138,8 @@ pub fn merge(
     requires ys { are_narrow ys.now ≡ true }
     ensures items { IfOk result (λ v. v.items ≡ merged a b xs.now ys.now) }
     ensures within { OnOk result (are_narrow (merged a b xs.now ys.now) ≡ true) }
-    ensures wide { IsErrOf result TermFault.TooWide → are_narrow (merged a b xs.now ys.now) ≡ false }
+    ensures wide { IsErrOf result TermFault.TooWide → are_narrow (merged a b xs.now ys.now)
+        ≡ false }
 {
     let mut out = SmallVec::new(alloc);
     let mut left = xs;
@@ -154,7 +157,8 @@ pub fn scaled_entries(alloc: Global, by: i128, xs: &[Entry]) -> Result<Entries, 
     requires { are_narrow xs.now ≡ true }
     ensures items { IfOk result (λ v. v.items ≡ scaled_entries by xs.now) }
     ensures within { OnOk result (are_narrow (scaled_entries by xs.now) ≡ true) }
-    ensures wide { IsErrOf result TermFault.TooWide → are_narrow (scaled_entries by xs.now) ≡ false }
+    ensures wide { IsErrOf result TermFault.TooWide → are_narrow (scaled_entries by xs.now)
+        ≡ false }
 {
     let mut out = SmallVec::new(alloc);
     for entry in xs {
@@ -165,7 +169,8 @@ pub fn scaled_entries(alloc: Global, by: i128, xs: &[Entry]) -> Result<Entries, 
 
 /// Puts an entry `by` times last, unless that is zero.
 fn scale_entry(out: &mut Entries, by: i128, entry: Entry) -> Result<(), TermFault>
-    ensures kept { OnOk result (out.new.items ≡ out.old.items ++ keep entry.symbol (by *ℤ entry.coefficient) []) }
+    ensures kept { OnOk result
+        (out.new.items ≡ out.old.items ++ keep entry.symbol (by *ℤ entry.coefficient) []) }
     ensures within { OnOk result (is_narrow (by *ℤ entry.coefficient) ≡ true) }
     ensures wide { IsErrOf result TermFault.TooWide → is_narrow (by *ℤ entry.coefficient) ≡ false }
 {

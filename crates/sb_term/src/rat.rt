@@ -206,7 +206,8 @@ fn denominators(den: u64, more_den: u64) -> i128
 fn sum_of_parts(num: i128, den: u64, more: i128, more_den: u64) -> Option<Rat>
     requires left { IsRat (record { num = num; den = den }) }
     requires right { IsRat (record { num = more; den = more_den }) }
-    ensures { result ≡ ratio_add (record { num = num; den = den }) (record { num = more; den = more_den }) }
+    ensures { result ≡ ratio_add (record { num = num; den = den })
+        (record { num = more; den = more_den }) }
 {
     let left = cross(num, more_den);
     let right = cross(more, den);
@@ -219,7 +220,8 @@ fn sum_of_parts(num: i128, den: u64, more: i128, more_den: u64) -> Option<Rat>
 fn product_of_parts(num: i128, den: u64, more: i128, more_den: u64) -> Option<Rat>
     requires left { IsRat (record { num = num; den = den }) }
     requires right { IsRat (record { num = more; den = more_den }) }
-    ensures { result ≡ ratio_mul (record { num = num; den = den }) (record { num = more; den = more_den }) }
+    ensures { result ≡ ratio_mul (record { num = num; den = den })
+        (record { num = more; den = more_den }) }
 {
     let (x, d) = cancelled(num.unsigned_abs(), more_den as u128);
     let (y, b) = cancelled(more.unsigned_abs(), den as u128);
@@ -229,7 +231,8 @@ fn product_of_parts(num: i128, den: u64, more: i128, more_den: u64) -> Option<Ra
 fn at_most_of_parts(num: i128, den: u64, more: i128, more_den: u64) -> bool
     requires left { IsRat (record { num = num; den = den }) }
     requires right { IsRat (record { num = more; den = more_den }) }
-    ensures { result ≡ ratio_le (record { num = num; den = den }) (record { num = more; den = more_den }) }
+    ensures { result ≡ ratio_le (record { num = num; den = den })
+        (record { num = more; den = more_den }) }
 {
     let left = cross(num, more_den);
     let right = cross(more, den);
@@ -239,7 +242,8 @@ fn at_most_of_parts(num: i128, den: u64, more: i128, more_den: u64) -> bool
 fn cmp_of_parts(num: i128, den: u64, more: i128, more_den: u64) -> Ordering
     requires left { IsRat (record { num = num; den = den }) }
     requires right { IsRat (record { num = more; den = more_den }) }
-    ensures { result ≡ ratio_cmp (record { num = num; den = den }) (record { num = more; den = more_den }) }
+    ensures { result ≡ ratio_cmp (record { num = num; den = den })
+        (record { num = more; den = more_den }) }
 {
     let left = cross(num, more_den);
     let right = cross(more, den);

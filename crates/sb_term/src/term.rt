@@ -148,7 +148,8 @@ impl Term {
 
     /// The `k`-th symbol from 0 in rising number with its coefficient; none where `k` is not below the count.
     pub fn entry(&self, k: u64) -> Option<(Sym, i128)>
-        ensures { result ≡ option_map (λ e. (record { 0 = e.symbol }, e.coefficient)) (slice_get self.now.entries k) }
+        ensures { result ≡ option_map (λ e. (record { 0 = e.symbol }, e.coefficient))
+            (slice_get self.now.entries k) }
     {
         let entry = self.entries.as_slice().get(k as usize)?;
         Some((Sym(entry.symbol), entry.coefficient))

@@ -11,7 +11,8 @@ impl Item {
     /// A constant of an enumeration, with its value where one is written.
     #[tactic(auto, unfolding(crate::specs::Plain::plain_item, crate::specs::Plain::plain_expr))]
     pub fn new(name: Name, value: Option<Expr>, place: Place) -> Item
-        ensures { plain_item result ≡ tree.Item name (optional_expr (option_map plain_expr value)) place }
+        ensures { plain_item result ≡ tree.Item name (optional_expr (option_map plain_expr value))
+            place }
     {
         Item { name, value, place }
     }
@@ -75,7 +76,9 @@ impl Decl {
         init: Option<Init>,
         body: Option<Stmt>,
     ) -> Decl
-        ensures { plain_decl result ≡ tree.Decl (note_list (plain_notes notes.items)) storage (plain_type type_name) name place (optional_init (option_map plain_init init)) (optional_stmt (option_map plain_stmt body)) }
+        ensures { plain_decl result ≡ tree.Decl (note_list (plain_notes notes.items)) storage
+            (plain_type type_name) name place (optional_init (option_map plain_init init))
+            (optional_stmt (option_map plain_stmt body)) }
     {
         Decl {
             notes,

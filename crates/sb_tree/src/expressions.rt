@@ -43,7 +43,8 @@ impl Expr {
     /// An operator between two operands.
     #[tactic(auto, unfolding(crate::specs::Plain::plain_expr))]
     pub fn binary(op: BinaryOp, left: Box<Expr>, right: Box<Expr>, place: Place) -> Expr
-        ensures { plain_expr result ≡ tree.Binary op (plain_expr left.value) (plain_expr right.value) place }
+        ensures { plain_expr result
+            ≡ tree.Binary op (plain_expr left.value) (plain_expr right.value) place }
     {
         Expr::Binary {
             op,
@@ -56,7 +57,8 @@ impl Expr {
     /// `=`, or an operator and `=`.
     #[tactic(auto, unfolding(crate::specs::Plain::plain_expr))]
     pub fn assign(op: Option<BinaryOp>, to: Box<Expr>, value: Box<Expr>, place: Place) -> Expr
-        ensures { plain_expr result ≡ tree.Assign op (plain_expr to.value) (plain_expr value.value) place }
+        ensures { plain_expr result ≡ tree.Assign op (plain_expr to.value) (plain_expr value.value)
+            place }
     {
         Expr::Assign {
             op,
@@ -69,7 +71,8 @@ impl Expr {
     /// `test ? yes : no`.
     #[tactic(auto, unfolding(crate::specs::Plain::plain_expr))]
     pub fn cond(test: Box<Expr>, yes: Box<Expr>, no: Box<Expr>, place: Place) -> Expr
-        ensures { plain_expr result ≡ tree.Cond (plain_expr test.value) (plain_expr yes.value) (plain_expr no.value) place }
+        ensures { plain_expr result ≡ tree.Cond (plain_expr test.value) (plain_expr yes.value)
+            (plain_expr no.value) place }
     {
         Expr::Cond {
             test,
@@ -82,7 +85,8 @@ impl Expr {
     /// A call.
     #[tactic(auto, unfolding(crate::specs::Plain::plain_expr))]
     pub fn call(callee: Box<Expr>, args: Vec<Expr>, place: Place) -> Expr
-        ensures { plain_expr result ≡ tree.Call (plain_expr callee.value) (expr_list (plain_exprs args.items)) place }
+        ensures { plain_expr result
+            ≡ tree.Call (plain_expr callee.value) (expr_list (plain_exprs args.items)) place }
     {
         Expr::Call {
             callee,
@@ -94,7 +98,8 @@ impl Expr {
     /// `base[at]`.
     #[tactic(auto, unfolding(crate::specs::Plain::plain_expr))]
     pub fn index(base: Box<Expr>, at: Box<Expr>, place: Place) -> Expr
-        ensures { plain_expr result ≡ tree.Index (plain_expr base.value) (plain_expr at.value) place }
+        ensures { plain_expr result ≡ tree.Index (plain_expr base.value) (plain_expr at.value)
+            place }
     {
         Expr::Index { base, at, place }
     }
@@ -102,7 +107,8 @@ impl Expr {
     /// A member, by `->` if `arrow`, else by `.`.
     #[tactic(auto, unfolding(crate::specs::Plain::plain_expr))]
     pub fn member(of: Box<Expr>, arrow: bool, name: Name, name_place: Place, place: Place) -> Expr
-        ensures { plain_expr result ≡ tree.Member (plain_expr of.value) arrow name name_place place }
+        ensures { plain_expr result ≡ tree.Member (plain_expr of.value) arrow name name_place
+            place }
     {
         Expr::Member {
             of,

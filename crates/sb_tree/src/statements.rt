@@ -19,7 +19,8 @@ impl Stmt {
     /// An expression as a statement; without one, the empty statement.
     #[tactic(auto, unfolding(crate::specs::Plain::plain_stmt, crate::specs::Plain::plain_expr))]
     pub fn evaluate(value: Option<Expr>, place: Place) -> Stmt
-        ensures { plain_stmt result ≡ tree.Evaluate (optional_expr (option_map plain_expr value)) place }
+        ensures { plain_stmt result ≡ tree.Evaluate (optional_expr (option_map plain_expr value))
+            place }
     {
         Stmt::Expr { value, place }
     }
@@ -35,7 +36,8 @@ impl Stmt {
     /// `if`, with what follows `else` where there is one.
     #[tactic(auto)]
     pub fn if_else(test: Expr, yes: Box<Stmt>, no: Option<Box<Stmt>>, place: Place) -> Stmt
-        ensures { plain_stmt result ≡ tree.If (plain_expr test) (plain_stmt yes.value) (optional_stmt (option_map plain_stmt (boxed no))) place }
+        ensures { plain_stmt result ≡ tree.If (plain_expr test) (plain_stmt yes.value)
+            (optional_stmt (option_map plain_stmt (boxed no))) place }
     {
         Stmt::If {
             test,
@@ -70,7 +72,9 @@ impl Stmt {
         body: Box<Stmt>,
         place: Place,
     ) -> Stmt
-        ensures { plain_stmt result ≡ tree.For (optional_stmt (option_map plain_stmt (boxed first))) (optional_expr (option_map plain_expr test)) (optional_expr (option_map plain_expr step)) (plain_stmt body.value) place }
+        ensures { plain_stmt result ≡ tree.For (optional_stmt (option_map plain_stmt (boxed first)))
+            (optional_expr (option_map plain_expr test))
+            (optional_expr (option_map plain_expr step)) (plain_stmt body.value) place }
     {
         Stmt::For {
             first,
@@ -144,7 +148,8 @@ impl Stmt {
     /// `return`, with its value where there is one.
     #[tactic(auto, unfolding(crate::specs::Plain::plain_stmt, crate::specs::Plain::plain_expr))]
     pub fn return_value(value: Option<Expr>, place: Place) -> Stmt
-        ensures { plain_stmt result ≡ tree.Return (optional_expr (option_map plain_expr value)) place }
+        ensures { plain_stmt result ≡ tree.Return (optional_expr (option_map plain_expr value))
+            place }
     {
         Stmt::Return { value, place }
     }

@@ -35,7 +35,9 @@ impl TypeName {
     /// An array, with its length where one is written.
     #[tactic(auto, unfolding(crate::specs::Plain::plain_type, crate::specs::Plain::plain_expr))]
     pub fn array(of: Box<TypeName>, length: Option<Box<Expr>>, place: Place) -> TypeName
-        ensures { plain_type result ≡ tree.Array (plain_type of.value) (optional_expr (option_map plain_expr (boxed length))) place }
+        ensures { plain_type result
+            ≡ tree.Array (plain_type of.value)
+            (optional_expr (option_map plain_expr (boxed length))) place }
     {
         TypeName::Array { of, length, place }
     }
@@ -43,7 +45,9 @@ impl TypeName {
     /// A function with its parameters.
     #[tactic(auto, unfolding(crate::specs::Plain::plain_type, crate::specs::Plain::plain_decl))]
     pub fn function(returned: Box<TypeName>, params: Vec<Decl>, place: Place) -> TypeName
-        ensures { plain_type result ≡ tree.Function (plain_type returned.value) (decl_list (plain_decls params.items)) place }
+        ensures { plain_type result
+            ≡ tree.Function (plain_type returned.value) (decl_list (plain_decls params.items))
+            place }
     {
         TypeName::Function {
             result: returned,
@@ -55,7 +59,8 @@ impl TypeName {
     /// A structure, with its members where they are written.
     #[tactic(auto, unfolding(crate::specs::Plain::plain_type, crate::specs::Plain::plain_decl))]
     pub fn structure(tag: Option<Name>, members: Option<Vec<Decl>>, place: Place) -> TypeName
-        ensures { plain_type result ≡ tree.Struct tag (optional_decls (option_map plain_decls (listed members))) place }
+        ensures { plain_type result
+            ≡ tree.Struct tag (optional_decls (option_map plain_decls (listed members))) place }
     {
         TypeName::Struct {
             tag,
@@ -67,7 +72,8 @@ impl TypeName {
     /// An enumeration, with its constants where they are written.
     #[tactic(auto, unfolding(crate::specs::Plain::plain_type, crate::specs::Plain::plain_item))]
     pub fn enumeration(tag: Option<Name>, items: Option<Vec<Item>>, place: Place) -> TypeName
-        ensures { plain_type result ≡ tree.Enum tag (optional_items (option_map plain_items (listed items))) place }
+        ensures { plain_type result
+            ≡ tree.Enum tag (optional_items (option_map plain_items (listed items))) place }
     {
         TypeName::Enum { tag, items, place }
     }
