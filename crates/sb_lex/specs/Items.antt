@@ -8,7 +8,7 @@ use Rattle.sb_lex.specs.declared.scan.Stem.TheVariants as stem
 use Rattle.sb_lex.specs.declared.scan.Quote.{Quote}
 use Rattle.sb_lex.specs.declared.scan.Quote.TheVariants as quote
 use Rattle.sb_lex.specs.declared.scan.Scan.{Scan}
-use Rattle.sb_lex.specs.declared.scan.Scan.TheVariants.{Done, Stuck, Word, Number, Exponent, Universal, Hex, LineComment, Comment, CommentStar, Literal, Escape, AngleHeader, QuoteHeader}
+use Rattle.sb_lex.specs.declared.scan.Scan.TheVariants.{Done, Stuck, Word, Number, Exponent, Universal, Hex, LineComment, Comment, CommentStar, Literal, Escape, AngleHeader, AngleLine, Basic, QuoteHeader}
 use Rattle.sb_lex.specs.declared.item.What.{What}
 use Rattle.sb_lex.specs.declared.item.What.TheVariants.{Newline, Gap, Piece}
 use Rattle.sb_lex.specs.declared.item.Item.{Item}
@@ -70,6 +70,8 @@ next_of CommentStar b = if nat_eq b 47 then Some Done else (if nat_eq b 42 then 
 next_of (Literal q) b = if nat_eq b 10 then None else (if nat_eq b 92 then Some (Escape q) else (if nat_eq b (quote_byte q) then Some Done else Some (Literal q)))
 next_of (Escape q) b = if nat_eq b 10 then None else Some (Literal q)
 next_of AngleHeader b = if nat_eq b 62 then Some Done else (if is_basic b then Some AngleHeader else None)
+next_of AngleLine b = if nat_eq b 10 then None else (if nat_eq b 62 then Some Done else Some AngleLine)
+next_of Basic b = if is_basic b then Some Basic else None
 next_of QuoteHeader b = if nat_eq b 10 then None else (if nat_eq b 34 then Some Done else Some QuoteHeader)
 
 -- whether it may end here
@@ -79,6 +81,7 @@ is_whole Word = true
 is_whole Number = true
 is_whole Exponent = true
 is_whole LineComment = true
+is_whole Basic = true
 is_whole _ = false
 
 -- whether it is whole once it has gone on with all of these bytes
@@ -170,10 +173,19 @@ plain_item a b c d =
 abbrev pub byte_at : List ℕ → ℕ → ℕ
 byte_at bytes k = slice_index bytes k
 
--- 6.4.7: a header name that is not empty, behind `# include` alone
+-- Behind the `<` of a header name, as of `<a.h>` or `<a"b>`. Where another byte than a basic one stands before the `>` of its
+-- line, what stands before that byte is passed over, and the byte is refused: é in `<é>`, `<a"é">`, `<a/*é*/b>` and `<a//é>`.
+-- It is none where no `>` follows in the line: `<a`
+abbrev pub angle_item : List ℕ → Option Item
+angle_item bytes =
+    if some_front AngleHeader bytes then Some (item (Piece kind.Header) 1 AngleHeader 0)
+    else (if some_front AngleLine bytes then Some (item Gap 1 Basic 0)
+    else None)
+
+-- 6.4.7: a header name that is not empty, behind `# include` alone: `<a.h>`, `"a.h"`, but not `<>` and `""`
 abbrev pub header_item : ℕ → ℕ → List ℕ → Option Item
 header_item a b bytes =
-    if nat_eq a 60 && not (nat_eq b 62) && some_front AngleHeader bytes then Some (item (Piece kind.Header) 1 AngleHeader 0)
+    if nat_eq a 60 && not (nat_eq b 62) then angle_item bytes
     else (if nat_eq a 34 && not (nat_eq b 34) && some_front QuoteHeader bytes then Some (item (Piece kind.Header) 1 QuoteHeader 0)
     else None)
 

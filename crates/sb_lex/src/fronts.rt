@@ -28,7 +28,8 @@ fn longest_so_far(scan: Scan, count: usize, longest: Option<usize>) -> Option<us
 /// How many bytes the longest front has that may end there, or None where no front may.
 pub(crate) fn longest(text: &Cursor, start: Scan) -> Option<usize>
     requires { length text.now ≤ 4194304 }
-    ensures { MatchOption result (NoneFits start (bytes_of text.now)) (λ size. Longest start (bytes_of text.now) size) }
+    ensures { MatchOption result (NoneFits start (bytes_of text.now))
+        (λ size. Longest start (bytes_of text.now) size) }
 {
     let mut ahead = text.again();
     let mut scan = start;

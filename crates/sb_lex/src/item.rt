@@ -1,7 +1,7 @@
 //! What stands at a byte of a text: a newline, white space, or a piece of some kind (C99 6.4).
 ghost use Rattle.std.specs.Prelude.{◌≡◌, ◌≤◌, MatchOption, Option, length, drop};
 ghost use Rattle.sb_lex.specs.Splicing.{bytes_of};
-ghost use Rattle.sb_lex.specs.Items.{byte_at, header_item, is_begin, is_doubled, is_include, is_mark_of_four, is_mark_of_one, is_mark_of_three, is_mark_of_two, is_other_pair, item, item_at, line_after, mark_item, mark_length, ordinary_item, plain_item, takes_assign, word_or_mark, NoneFits};
+ghost use Rattle.sb_lex.specs.Items.{angle_item, byte_at, header_item, is_begin, is_doubled, is_include, is_mark_of_four, is_mark_of_one, is_mark_of_three, is_mark_of_two, is_other_pair, item, item_at, line_after, mark_item, mark_length, ordinary_item, plain_item, takes_assign, word_or_mark, NoneFits};
 ghost use Rattle.sb_lex.specs.Lexing.{HasSize};
 
 use crate::bytes::{is_blank, is_digit, is_graphic, is_letter};
@@ -286,17 +286,34 @@ fn ordinary_item(text: &Cursor) -> Item
     plain_item(first, second.byte(), third.byte(), fourth.byte())
 }
 
+/// What a `<` opens behind `# include`, which this text follows: a header name, or what stands before a byte that none
+/// may have.
+fn angle_item(behind: &Cursor) -> Option<Item>
+    requires { length behind.now ≤ 4194304 }
+    ensures item { result ≡ angle_item (bytes_of behind.now) }
+    ensures opens { MatchOption result (Unit {0}) (λ header. header.opening ≡ 1) }
+{
+    if some_front(behind, Scan::AngleHeader) {
+        Some(piece(PpKind::Header, 1, Scan::AngleHeader))
+    } else if some_front(behind, Scan::AngleLine) {
+        Some(gap(1, Scan::Basic, 0))
+    } else {
+        None
+    }
+}
+
 /// The header name at the front of a text (6.4.7), where one stands there that is not empty.
 fn header_item(text: &Cursor) -> Option<Item>
     requires { length text.now ≤ 4194304 }
-    ensures item { result ≡ header_item (byte_at (bytes_of text.now) 0) (byte_at (bytes_of text.now) 1) (drop 1 (bytes_of text.now)) }
+    ensures item { result ≡ header_item (byte_at (bytes_of text.now) 0)
+        (byte_at (bytes_of text.now) 1) (drop 1 (bytes_of text.now)) }
     ensures opens { MatchOption result (Unit {0}) (λ header. header.opening ≡ 1) }
 {
     let first = text.byte();
     let behind = text.ahead(1);
     let second = behind.byte();
-    if first == b'<' && second != b'>' && some_front(&behind, Scan::AngleHeader) {
-        Some(piece(PpKind::Header, 1, Scan::AngleHeader))
+    if first == b'<' && second != b'>' {
+        angle_item(&behind)
     } else if first == b'"' && second != b'"' && some_front(&behind, Scan::QuoteHeader) {
         Some(piece(PpKind::Header, 1, Scan::QuoteHeader))
     } else {
@@ -325,7 +342,8 @@ impl Item {
     pub(crate) fn size(self, text: &Cursor) -> Option<usize>
         requires short { length text.now ≤ 4194304 }
         requires opening { self.opening ≤ 4 }
-        ensures { MatchOption result (NoneFits self.scan (bytes_of (drop self.opening text.now))) (λ size. HasSize self text.now size) }
+        ensures { MatchOption result (NoneFits self.scan (bytes_of (drop self.opening text.now)))
+            (λ size. HasSize self text.now size) }
     {
         let more = longest(&text.ahead(self.opening), self.scan)?;
         Some(self.opening + more)

@@ -36,11 +36,13 @@ fn number_of(
     count: usize,
     place: Place,
 ) -> Result<Name, Stop>
-    ensures named { IsNamed names.old.limit count names.old.texts kind text.now place names.new.texts result }
+    ensures named { IsNamed names.old.limit count names.old.texts kind text.now place
+        names.new.texts result }
     ensures limit { names.new.limit ≡ names.old.limit }
     ensures numbers { KeepsNumbers names.old.texts names.new.texts }
     ensures distinct { IsDistinct names.old.texts → IsDistinct names.new.texts }
-    ensures within { length names.old.texts ≤ names.old.limit → length names.new.texts ≤ names.new.limit }
+    ensures within { length names.old.texts ≤ names.old.limit → length names.new.texts
+        ≤ names.new.limit }
 {
     if !has_value(kind, text) {
         return Err(stop_at(4, place));
@@ -59,7 +61,10 @@ fn number_of(
 fn pieces(alloc: Global, names: &mut Names, bytes: &[u8], file: u32) -> Result<Vec<PpToken>, Stop>
     requires { length bytes.now ≤ 4194304 }
     ensures most { IfOk result (λ pieces. length pieces.items ≤ most_pieces) }
-    ensures pieces { MatchResult result (λ pieces. Lexes file names.old.limit Line.Begin false 0 names.old.texts (text_of_file bytes.now) pieces.items names.new.texts Whole) (IsFault file names.old.limit names.old.texts (text_of_file bytes.now) names.new.texts) }
+    ensures pieces { MatchResult result
+        (λ pieces. Lexes file names.old.limit Line.Begin false 0 names.old.texts
+        (text_of_file bytes.now) pieces.items names.new.texts Whole)
+        (IsFault file names.old.limit names.old.texts (text_of_file bytes.now) names.new.texts) }
     ensures table { KeepsTable names.old names.new }
 {
     let mut pieces = Vec::new(alloc);
@@ -117,13 +122,18 @@ fn pieces(alloc: Global, names: &mut Names, bytes: &[u8], file: u32) -> Result<V
 /// Want of memory may come at any time.
 pub fn lex(alloc: Global, names: &mut Names, bytes: &[u8], file: u32) -> Result<Vec<PpToken>, Stop>
     requires { length bytes.now ≤ 4194304 }
-    ensures pieces { MatchResult result (λ pieces. PiecesOf file names.old.limit names.old.texts bytes.now pieces.items names.new.texts Whole) (IsNoPieces file names.old.limit names.old.texts bytes.now names.new.texts) }
+    ensures pieces { MatchResult result
+        (λ pieces. PiecesOf file names.old.limit names.old.texts bytes.now pieces.items
+        names.new.texts Whole)
+        (IsNoPieces file names.old.limit names.old.texts bytes.now names.new.texts) }
     ensures most { IfOk result (λ pieces. length pieces.items ≤ most_pieces) }
-    ensures only { IsDistinct names.old.texts → HasOneReading file names.old.limit names.old.texts (text_of_file bytes.now) }
+    ensures only { IsDistinct names.old.texts → HasOneReading file names.old.limit names.old.texts
+        (text_of_file bytes.now) }
     ensures limit { names.new.limit ≡ names.old.limit }
     ensures numbers { KeepsNumbers names.old.texts names.new.texts }
     ensures distinct { IsDistinct names.old.texts → IsDistinct names.new.texts }
-    ensures within { length names.old.texts ≤ names.old.limit → length names.new.texts ≤ names.new.limit }
+    ensures within { length names.old.texts ≤ names.old.limit → length names.new.texts
+        ≤ names.new.limit }
 {
     pieces(alloc, names, bytes, file)
 }

@@ -47,6 +47,10 @@ pub enum Scan {
     Escape(Quote),
     /// In a header name between `<` and `>` (6.4.7).
     AngleHeader,
+    /// Behind a `<`, with its `>` to come in the line.
+    AngleLine,
+    /// In bytes of the basic set (5.2.1).
+    Basic,
     /// In a header name between quotes.
     QuoteHeader,
 }
@@ -162,6 +166,28 @@ fn angle_header_after(byte: u8) -> Option<Scan>
     }
 }
 
+fn angle_line_after(byte: u8) -> Option<Scan>
+    ensures { result ≡ next_of Scan.AngleLine byte }
+{
+    if byte == b'\n' {
+        None
+    } else if byte == b'>' {
+        Some(Scan::Done)
+    } else {
+        Some(Scan::AngleLine)
+    }
+}
+
+fn basic_after(byte: u8) -> Option<Scan>
+    ensures { result ≡ next_of Scan.Basic byte }
+{
+    if is_basic(byte) {
+        Some(Scan::Basic)
+    } else {
+        None
+    }
+}
+
 fn quote_header_after(byte: u8) -> Option<Scan>
     ensures { result ≡ next_of Scan.QuoteHeader byte }
 {
@@ -201,6 +227,8 @@ impl Scan {
             Scan::Literal(quote) => literal_after(quote, byte),
             Scan::Escape(quote) => within_line(byte, Scan::Literal(quote)),
             Scan::AngleHeader => angle_header_after(byte),
+            Scan::AngleLine => angle_line_after(byte),
+            Scan::Basic => basic_after(byte),
             Scan::QuoteHeader => quote_header_after(byte),
         }
     }
@@ -211,6 +239,7 @@ impl Scan {
     {
         match self {
             Scan::Done | Scan::Word | Scan::Number | Scan::Exponent | Scan::LineComment => true,
+            Scan::Basic => true,
             _ => false,
         }
     }

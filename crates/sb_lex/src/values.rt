@@ -162,7 +162,8 @@ fn spelled_byte(base: Base, text: &[u8]) -> Option<u8>
 
 /// The byte of as many digits as `text` begins with, at most `most`, and the text behind them.
 fn numeric_escape(base: Base, most: usize, text: &[u8]) -> Option<(u8, &[u8])>
-    ensures byte { option_map (λ c. (c.0, c.1.now)) result ≡ spec.numeric_escape base most text.now }
+    ensures byte { option_map (λ c. (c.0, c.1.now)) result
+        ≡ spec.numeric_escape base most text.now }
     ensures shorter { IfSome result (λ c. length c.1.now ≤ length text.now) }
 {
     let digits = &text[..most.min(text.len())];
@@ -252,7 +253,8 @@ fn char_value(byte: u8) -> u64
 pub fn character_value(text: &[u8]) -> Option<u64>
     ensures some { IfSome result (spec.IsCharacter text.now) }
     ensures none { IfNone result ((value : ℕ) → spec.IsCharacter text.now value → ⊥) }
-    ensures only { (value other : ℕ) → spec.IsCharacter text.now value → spec.IsCharacter text.now other → value ≡ other }
+    ensures only { (value other : ℕ) → spec.IsCharacter text.now value
+        → spec.IsCharacter text.now other → value ≡ other }
 {
     let body = inside_quotes(b'\'', text)?;
     let (byte, rest) = first_character(body)?;
@@ -288,7 +290,9 @@ fn are_characters(text: &[u8]) -> bool
 
 /// The bytes that the characters of a text name; None where one is bad.
 fn character_bytes(alloc: Global, text: &[u8]) -> Result<Option<Vec<u8>>, AllocError>
-    ensures characters { IfOk result (λ found. MatchOption found ((bytes : List ℕ) → spec.Characters text.now bytes → ⊥) (λ v. spec.Characters text.now v.items)) }
+    ensures characters { IfOk result
+        (λ found. MatchOption found ((bytes : List ℕ) → spec.Characters text.now bytes → ⊥)
+        (λ v. spec.Characters text.now v.items)) }
 {
     let mut bytes = Vec::new(alloc);
     let mut rest = text;
@@ -305,8 +309,11 @@ fn character_bytes(alloc: Global, text: &[u8]) -> Result<Option<Vec<u8>>, AllocE
 /// The bytes that a string literal names, with its quotes (C99 6.4.5), without the zero behind them.
 /// None where the text is no literal or one of its characters names no byte.
 pub fn literal_bytes(alloc: Global, text: &[u8]) -> Result<Option<Vec<u8>>, AllocError>
-    ensures literal { IfOk result (λ found. MatchOption found ((bytes : List ℕ) → spec.IsText text.now bytes → ⊥) (λ v. spec.IsText text.now v.items)) }
-    ensures only { (bytes others : List ℕ) → spec.IsText text.now bytes → spec.IsText text.now others → bytes ≡ others }
+    ensures literal { IfOk result
+        (λ found. MatchOption found ((bytes : List ℕ) → spec.IsText text.now bytes → ⊥)
+        (λ v. spec.IsText text.now v.items)) }
+    ensures only { (bytes others : List ℕ) → spec.IsText text.now bytes
+        → spec.IsText text.now others → bytes ≡ others }
 {
     match inside_quotes(b'"', text) {
         Some(body) => character_bytes(alloc, body),
