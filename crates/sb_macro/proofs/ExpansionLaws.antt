@@ -9,7 +9,7 @@ use Rattle.sb_macro.specs.Replacement.{replacement}
 use Rattle.sb_macro.specs.Tokens.{Tok}
 
 -- of two ways to read a list, one goes on from the other
-data Together (scope : Scope) (out : List Tok) (last : List Tok) (other : List Tok) (end : List Tok) : Type 0 where
+pub data Together (scope : Scope) (out : List Tok) (last : List Tok) (other : List Tok) (end : List Tok) : Type 0 where
   goes_on : (more : List Tok) → Gives scope last more end → other ≡ out ++ more → Together scope out last other end
   went_on : (more : List Tok) → Gives scope end more last → out ≡ other ++ more → Together scope out last other end
 
@@ -60,7 +60,7 @@ whole scope out other (went_on more g is) = ended more g is
     ended : (more : List Tok) → Gives scope [] more [] → out ≡ other ++ more → out ≡ other
     ended _ (start _) is = is ∙ append-nil other
 
-together : (scope : Scope) (list out last other end : List Tok) → Gives scope list out last → Gives scope list other end → Together scope out last other end
+pub together : (scope : Scope) (list out last other end : List Tok) → Gives scope list out last → Gives scope list other end → Together scope out last other end
 together scope list _ _ other end (start _) second = goes_on other second refl
 together scope _ _ last _ _ (kept t rest out _ is first) (start _) = went_on (t ∷ out) (kept t rest out last is first) refl
 together scope _ _ last _ end (kept t rest out _ is first) (kept _ _ other _ also second) = one_more scope t out last other end (together scope rest out last other end first second)
@@ -83,10 +83,10 @@ pub one_expansion : (scope : Scope) (list out other : List Tok) → Gives scope 
 one_expansion scope list out other first second = whole scope out other (together scope list out [] other [] first second)
 
 -- nothing goes on from here within so many tokens more
-record Held (scope : Scope) (left : ℕ) (list : List Tok) : Type 0 where
-  held : (out last : List Tok) → Gives scope list out last → length out ≤ left → (out ≡ []) × (last ≡ list)
+pub record Held (scope : Scope) (left : ℕ) (list : List Tok) : Type 0 where
+  pub held : (out last : List Tok) → Gives scope list out last → length out ≤ left → (out ≡ []) × (last ≡ list)
 
-held_full : (scope : Scope) (left : ℕ) (t : Tok) (rest : List Tok) → step scope t rest ≡ Kept → left ≡ 0 → Held scope left (t ∷ rest)
+pub held_full : (scope : Scope) (left : ℕ) (t : Tok) (rest : List Tok) → step scope t rest ≡ Kept → left ≡ 0 → Held scope left (t ∷ rest)
 held_full scope left t rest is full = record { held = λ out last g few. at (t ∷ rest) out last refl g few }
   where
     at : (list out last : List Tok) → list ≡ t ∷ rest → Gives scope list out last → length out ≤ left → (out ≡ []) × (last ≡ list)
@@ -107,10 +107,10 @@ held_stuck scope left t rest not_kept not_replaced = record { held = λ out last
     at _ _ _ same (replaced u list _ _ m args fulls after is all small each _) =
         absurd (not_replaced m args fulls after (let here : u ≡ t = cc in let behind : list ≡ rest = cc in ap (λ x. step scope x rest) (sym here) ∙ ap (step scope u) (sym behind) ∙ is) all small each)
 
-unclosed_kept : {s : Step} → s ≡ Unclosed → s ≡ Kept → ⊥
+pub unclosed_kept : {s : Step} → s ≡ Unclosed → s ≡ Kept → ⊥
 unclosed_kept is kept_is = absurd (let e = sym is ∙ kept_is in cc)
 
-unclosed_replaced : {s : Step} {m : Macro} {args : List (List Tok)} {after : List Tok} → s ≡ Unclosed → s ≡ Replaced m args after → ⊥
+pub unclosed_replaced : {s : Step} {m : Macro} {args : List (List Tok)} {after : List Tok} → s ≡ Unclosed → s ≡ Replaced m args after → ⊥
 unclosed_replaced is also = absurd (let e = sym is ∙ also in cc)
 
 miscounted_kept : {s : Step} → s ≡ Miscounted → s ≡ Kept → ⊥
@@ -119,16 +119,16 @@ miscounted_kept is kept_is = absurd (let e = sym is ∙ kept_is in cc)
 miscounted_replaced : {s : Step} {m : Macro} {args : List (List Tok)} {after : List Tok} → s ≡ Miscounted → s ≡ Replaced m args after → ⊥
 miscounted_replaced is also = absurd (let e = sym is ∙ also in cc)
 
-unclosed_miscounted : {s : Step} → s ≡ Unclosed → s ≡ Miscounted → ⊥
+pub unclosed_miscounted : {s : Step} → s ≡ Unclosed → s ≡ Miscounted → ⊥
 unclosed_miscounted is also = absurd (let e = sym is ∙ also in cc)
 
-held_unclosed : (scope : Scope) (left : ℕ) (t : Tok) (rest : List Tok) → step scope t rest ≡ Unclosed → Held scope left (t ∷ rest)
+pub held_unclosed : (scope : Scope) (left : ℕ) (t : Tok) (rest : List Tok) → step scope t rest ≡ Unclosed → Held scope left (t ∷ rest)
 held_unclosed scope left t rest is = held_stuck scope left t rest (unclosed_kept is) (λ m args fulls after also all small each. unclosed_replaced is also)
 
-held_miscounted : (scope : Scope) (left : ℕ) (t : Tok) (rest : List Tok) → step scope t rest ≡ Miscounted → Held scope left (t ∷ rest)
+pub held_miscounted : (scope : Scope) (left : ℕ) (t : Tok) (rest : List Tok) → step scope t rest ≡ Miscounted → Held scope left (t ∷ rest)
 held_miscounted scope left t rest is = held_stuck scope left t rest (miscounted_kept is) (λ m args fulls after also all small each. miscounted_replaced is also)
 
-held_inside : (scope : Scope) (left : ℕ) (t : Tok) (rest : List Tok) (m : Macro) (args : List (List Tok)) (after : List Tok) (k : ℕ) (arg : List Tok)
+pub held_inside : (scope : Scope) (left : ℕ) (t : Tok) (rest : List Tok) (m : Macro) (args : List (List Tok)) (after : List Tok) (k : ℕ) (arg : List Tok)
     → step scope t rest ≡ Replaced m args after → slice_get args k ≡ Some arg → ((full : List Tok) → Gives scope arg full [] → length full ≤ scope.room → ⊥) → Held scope left (t ∷ rest)
 held_inside scope left t rest m args after k arg is at refused =
     held_stuck scope left t rest (λ kept_is. kept_replaced kept_is is) (λ n others fuller later also all small each.

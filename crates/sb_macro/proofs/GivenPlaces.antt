@@ -13,6 +13,9 @@ use Rattle.sb_macro.specs.declared.arguments.Turn.{Turn}
 use Rattle.sb_macro.specs.declared.arguments.Turn.TheVariants.{Ends, Parts, Goes}
 use Rattle.sb_macro.specs.declared.stored.Part.{Part}
 use Rattle.sb_macro.specs.Arguments.{Split, arguments, arguments_for, onto_first, split_at, turn_of}
+use Rattle.sb_macro.specs.declared.ending.End.{End}
+use Rattle.sb_macro.specs.Endings as ending
+use Rattle.sb_macro.specs.Endings.{EndsAt, EndsAmong, TextEnds, text_ends}
 use Rattle.sb_macro.specs.Expansion.{Scope, Step, step, step_of, step_by, step_with, called_macro, Replaced, Miscounted, Gives, start, kept, replaced, Stops, too_many, unclosed, miscounted, inside, Expanded, expands, IsStop, place_of_last}
 use Rattle.sb_macro.specs.Halts.{nowhere}
 use Rattle.sb_macro.specs.Macros.{Macro, param_of}
@@ -182,3 +185,23 @@ expanded_among scope list pieces (expands out gives few is) =
 pub stops_among : (scope : Scope) (list : List PpToken) (end : Stop) → IsStop scope list end → StopsAmong list end
 stops_among scope list (stop.Refused r) stops = stop_among scope list r.number r.place stops.0
 stops_among scope list stop.Memory stops = tt
+
+-- so does what a text gives before its expansion ends, and the refusal that ends it
+pub text_among : (scope : Scope) (list pieces : List PpToken) (how : End) → TextEnds scope list pieces how → All (λ t. IsAmong list t.place) pieces × EndsAmong list how
+text_among scope list pieces how (text_ends out ends is) =
+    let places = at_ends out how ends in (
+      subst (λ l. All (λ (t : PpToken). IsAmong list t.place) l) (sym is)
+          (All-from_recursion (λ (t : PpToken). IsAmong list t.place) _ (at_pieces (IsAmong list) out places.0)),
+      places.1,
+    )
+  where
+    by_end : (out : List Tok) (t : Tok) (rest : List Tok) (how : End) → At (IsAmong list) (t ∷ rest) → EndsAt scope (length out) t rest how → EndsAmong list how
+    by_end out t rest _ ats (ending.too_many stays full) = ats.0
+    by_end out t rest _ ats (ending.in_call open1 few) = tt
+    by_end out t rest _ ats (ending.miscounted bad few) = ats.0
+    by_end out t rest _ ats (ending.inside m args fulls after also few small each arg at there number place stops) = ats.0
+
+    at_ends : (out : List Tok) (how : End) → ending.Ends scope (fresh list) out how → At (IsAmong list) out × EndsAmong list how
+    at_ends _ _ (ending.whole out gives few) = ((at_given (IsAmong list) scope (fresh list) out [] gives (at_itself list)).0, tt)
+    at_ends _ _ (ending.before out t rest how gives at) =
+        let places = at_given (IsAmong list) scope (fresh list) out (t ∷ rest) gives (at_itself list) in (places.0, by_end out t rest how places.1 at)

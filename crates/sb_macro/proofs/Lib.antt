@@ -1,5 +1,6 @@
 pub mod DefiningLaws
 pub mod DefiningOnce
+pub mod EndingLaws
 pub mod Expanding
 pub mod ExpansionLaws
 pub mod GivenPlaces

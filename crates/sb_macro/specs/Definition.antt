@@ -18,9 +18,12 @@ use Rattle.sb_macro.specs.Halts.{nowhere, refusal}
 use Rattle.sb_macro.specs.Macros.{Macro, holds}
 use Rattle.sb_macro.specs.Marks.{mark_of}
 
--- what a piece is in a list of parameters; a new name is a word that is none of the parameters before it
+-- what a piece is in a list of parameters; a new name is a word that is none of the parameters before it.
+-- 15 at `...` where a list has it: `F(...)`, `F(a, ...)`. 11 at any other piece with which no list goes on: at the dots of
+-- `F(a...)`, at `b` of `F(a b)`, at the second `a` of `F(a, a)`, at `)` of `F(a, )`
 abbrev pub listed_as : Mark → Expected → (is_new : Bool) → Listed
-listed_as Dots expected is_new = Bad 15
+listed_as Dots First is_new = Bad 15
+listed_as Dots Next is_new = Bad 15
 listed_as Close First is_new = Ended
 listed_as Close Separator is_new = Ended
 listed_as Comma Separator is_new = Separated

@@ -18,8 +18,3 @@ refusal number place = record { number = number; place = place; feature = 0 }
 abbrev pub stop_of : Halt → Stop
 stop_of (Refused number place) = stop.Refused (refusal number place)
 stop_of Memory = stop.Memory
-
--- the halt of an argument, at the place of the name whose argument it is
-abbrev pub halt_at : Place → Halt → Halt
-halt_at at (Refused number place) = Refused number at
-halt_at at Memory = Memory

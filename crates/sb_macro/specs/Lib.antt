@@ -3,6 +3,7 @@ pub mod Adding
 pub mod Arguments
 pub mod Definition
 pub mod Defines
+pub mod Endings
 pub mod Expansion
 pub mod Halts
 pub mod Macros

@@ -53,7 +53,8 @@ pub fn take_arguments(
     names: &Names,
     rest: &mut Tokens,
 ) -> Result<Option<VecDeque<Tokens>>, AllocError>
-    ensures taken { IfOk result (HasTaken (arguments names.now.texts 0 (toks rest.old.items)) rest.new) }
+    ensures taken { IfOk result
+        (HasTaken (arguments names.now.texts 0 (toks rest.old.items)) rest.new) }
 {
     let mut args = VecDeque::new(alloc);
     let mut arg = VecDeque::new(alloc);
@@ -114,7 +115,8 @@ pub fn needed_arguments(
     params: &[Name],
     args: VecDeque<Tokens>,
 ) -> Result<VecDeque<Tokens>, AllocError>
-    ensures { IfOk result (λ kept. lists kept.items ≡ needed_arguments body.now params.now (lists args.items)) }
+    ensures { IfOk result
+        (λ kept. lists kept.items ≡ needed_arguments body.now params.now (lists args.items)) }
 {
     let mut args = args;
     let mut kept = VecDeque::new(alloc);

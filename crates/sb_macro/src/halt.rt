@@ -1,6 +1,6 @@
 //! Why reading a definition or expanding a text stops.
 ghost use Rattle.std.specs.Prelude.{◌≡◌};
-ghost use Rattle.sb_macro.specs.Halts.{halt_at, nowhere, stop_of};
+ghost use Rattle.sb_macro.specs.Halts.{nowhere, stop_of};
 
 use sb_base::{Place, Refusal, Stop};
 use std::alloc::{AllocError, AllocFailed};
@@ -45,16 +45,6 @@ pub fn stop_of(halt: Halt) -> Stop
             feature: 0,
         }),
         Halt::Memory => Stop::Memory,
-    }
-}
-
-/// The halt of an argument, at the place of the name whose argument it is.
-pub fn halt_at(halt: Halt, place: Place) -> Halt
-    ensures { result ≡ halt_at place halt }
-{
-    match halt {
-        Halt::Refused(number, _) => Halt::Refused(number, place),
-        Halt::Memory => Halt::Memory,
     }
 }
 

@@ -1,6 +1,7 @@
 //! Macros and their expansion (C99 6.10.3, without `#`, `##` and variable arguments).
 //!
-//! `specs/Expansion.antt` says what a text expands to and when it is refused, `specs/Defines.antt` what a line defines.
+//! `specs/Expansion.antt` says what a text expands to and when it is refused, `specs/Endings.antt` what it gives before,
+//! `specs/Defines.antt` what a line defines. proofs/EndingLaws.antt has `one_end`, that this is one list and one end.
 //! proofs/ExpansionLaws.antt has the laws `one_expansion`, that a list of tokens has one expansion, `exclusive`, that a
 //! refused list has none, and `one_stop`, that it is refused with one number at one place; `Macros::expand` gives them
 //! as its clause `only`. proofs/GivenPlaces.antt has that all that an expansion gives, and its refusal, stand at pieces
@@ -9,6 +10,7 @@
 #![tactic(auto)]
 
 mod arguments;
+mod ending;
 mod expansion;
 mod halt;
 mod lines;
@@ -18,4 +20,5 @@ mod replacing;
 mod stored;
 mod table;
 
+pub use ending::{End, Given};
 pub use table::Macros;

@@ -51,7 +51,8 @@ fn listed_as(mark: Mark, expected: Expected, is_new: bool) -> Listed
     ensures { result ≡ listed_as mark expected is_new }
 {
     match (mark, expected) {
-        (Mark::Dots, _) => Listed::Bad(15),
+        (Mark::Dots, Expected::First) => Listed::Bad(15),
+        (Mark::Dots, Expected::Next) => Listed::Bad(15),
         (Mark::Close, Expected::First) => Listed::Ended,
         (Mark::Close, Expected::Separator) => Listed::Ended,
         (Mark::Comma, Expected::Separator) => Listed::Separated,
@@ -78,7 +79,9 @@ fn read_parameters<'a>(
     begin: Place,
     list: &'a [PpToken],
 ) -> Result<Parameters<'a>, Halt>
-    ensures { MatchResult result (AreRead (parameters names.now.texts Expected.First [] begin list.now)) (IsFault (parameters names.now.texts Expected.First [] begin list.now)) }
+    ensures { MatchResult result
+        (AreRead (parameters names.now.texts Expected.First [] begin list.now))
+        (IsFault (parameters names.now.texts Expected.First [] begin list.now)) }
 {
     let mut params = Vec::new(alloc);
     let mut expected = Expected::First;
@@ -146,7 +149,8 @@ fn parts(alloc: Global, list: &[PpToken]) -> Result<Vec<Part>, AllocError>
 
 /// Reads a replacement list.
 fn replacement_list(alloc: Global, names: &Names, list: &[PpToken]) -> Result<Vec<Part>, Halt>
-    ensures { MatchResult result (λ body. replacement_list names.now.texts list.now ≡ Ok body.items) (IsFault (replacement_list names.now.texts list.now)) }
+    ensures { MatchResult result (λ body. replacement_list names.now.texts list.now ≡ Ok body.items)
+        (IsFault (replacement_list names.now.texts list.now)) }
 {
     if let Some(token) = first_hash(names, list) {
         return Err(Halt::Refused(15, token.place));
@@ -164,7 +168,10 @@ fn lists_params(names: &Names, token: PpToken) -> bool
 
 /// Reads an object-like macro, whose name was read.
 fn object_like(alloc: Global, names: &Names, name: Name, list: &[PpToken]) -> Result<Stored, Halt>
-    ensures { MatchResult result (λ stored. with_body name None (replacement_list names.now.texts list.now) ≡ Ok (macro_of stored)) (IsFault (with_body name None (replacement_list names.now.texts list.now))) }
+    ensures { MatchResult result
+        (λ stored. with_body name None (replacement_list names.now.texts list.now)
+        ≡ Ok (macro_of stored))
+        (IsFault (with_body name None (replacement_list names.now.texts list.now))) }
 {
     let body = replacement_list(alloc, names, list)?;
     Ok(Stored {
@@ -176,7 +183,9 @@ fn object_like(alloc: Global, names: &Names, name: Name, list: &[PpToken]) -> Re
 
 /// Reads the line of a `#define`.
 pub fn definition(alloc: Global, names: &Names, line: &[PpToken]) -> Result<Stored, Halt>
-    ensures { MatchResult result (λ stored. definition names.now.texts line.now ≡ Ok (macro_of stored)) (IsFault (definition names.now.texts line.now)) }
+    ensures { MatchResult result
+        (λ stored. definition names.now.texts line.now ≡ Ok (macro_of stored))
+        (IsFault (definition names.now.texts line.now)) }
 {
     let Some((name, rest)) = line.split_first() else {
         return Err(Halt::Refused(11, nowhere()));

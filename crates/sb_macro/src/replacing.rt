@@ -42,7 +42,9 @@ fn argument_token(
     spaced: bool,
     marked: &Marked,
 ) -> Result<Marked, AllocError>
-    ensures { IfOk result (λ m. tok_of m ≡ argument_token spot.now.place spot.now.hidden.now spaced (tok_of marked.now)) }
+    ensures { IfOk result
+        (λ m. tok_of m ≡ argument_token spot.now.place spot.now.hidden.now spaced
+        (tok_of marked.now)) }
 {
     let hidden = all_names(alloc, marked.hidden.as_slice(), spot.hidden)?;
     Ok(Marked {
@@ -65,7 +67,9 @@ fn add_argument(
     full: &[Marked],
     tokens: &mut Tokens,
 ) -> Result<(), AllocError>
-    ensures { OnOk result (toks tokens.new.items ≡ toks tokens.old.items ++ argument spot.now.place spot.now.hidden.now spaced (toks full.now)) }
+    ensures { OnOk result
+        (toks tokens.new.items ≡ toks tokens.old.items
+        ++ argument spot.now.place spot.now.hidden.now spaced (toks full.now)) }
 {
     let Some((lead, others)) = full.split_first() else {
         return Ok(());
@@ -86,7 +90,10 @@ fn add_part(
     part: Part,
     tokens: &mut Tokens,
 ) -> Result<(), AllocError>
-    ensures { OnOk result (toks tokens.new.items ≡ toks tokens.old.items ++ standing (macro_of stored.now) (fulls_of fulls.now) spot.now.place spot.now.hidden.now part) }
+    ensures { OnOk result
+        (toks tokens.new.items ≡ toks tokens.old.items
+        ++ standing (macro_of stored.now) (fulls_of fulls.now) spot.now.place spot.now.hidden.now
+        part) }
 {
     let Some(number) = stored.param(part.text) else {
         tokens.push_back(part_token(alloc, spot, part)?)?;
@@ -118,7 +125,9 @@ pub fn replacement(
     fulls: &[Vec<Marked>],
     name: &Marked,
 ) -> Result<Tokens, AllocError>
-    ensures { IfOk result (λ tokens. toks tokens.items ≡ replacement (macro_of stored.now) (fulls_of fulls.now) (tok_of name.now)) }
+    ensures { IfOk result
+        (λ tokens. toks tokens.items ≡ replacement (macro_of stored.now) (fulls_of fulls.now)
+        (tok_of name.now)) }
 {
     let mut hidden = Vec::from_slice(alloc, name.hidden.as_slice())?;
     hidden.push(stored.name)?;

@@ -58,7 +58,8 @@ fn first_named(macros: &[Stored], name: Name) -> Option<&Stored>
 
 /// The macro of a name.
 pub fn find(macros: &[Stored], name: Name) -> Option<&Stored>
-    ensures { option_map macro_of (option_copied result) ≡ macro_named (map macro_of macros.now) name }
+    ensures { option_map macro_of (option_copied result)
+        ≡ macro_named (map macro_of macros.now) name }
 {
     first_named(macros, name)
 }

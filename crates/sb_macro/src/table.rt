@@ -5,18 +5,20 @@ ghost use Rattle.std.specs.Option.{option_copied, option_map};
 ghost use Rattle.sb_lex.specs.Places.{IsAmong};
 ghost use Rattle.sb_macro.specs.Adding.{HasCompared, IsAddition};
 ghost use Rattle.sb_macro.specs.Defines.{IsDefined, IsOnlyTable, RefusesLine, macro_at};
+ghost use Rattle.sb_macro.specs.Endings.{EndsAmong, IsOnlyEnd, TextEnds};
 ghost use Rattle.sb_macro.specs.Expansion.{Expanded, IsOnlyAnswer, IsStop};
 ghost use Rattle.sb_macro.specs.Halts.{stop_of};
 ghost use Rattle.sb_macro.specs.Macros.{IsDistinct, macro_of, macro_named, same_name, without};
 ghost use Rattle.sb_macro.specs.Places.{StopsAmong};
 
+use crate::ending::Given;
 use crate::expansion::Expander;
 use crate::halt::{Halt, nowhere, stop_of};
 use crate::lines::definition;
 use crate::stored::{Stored, find};
 use sb_base::{Name, Names, Place, PpKind, Stop};
 use sb_lex::PpToken;
-use std::alloc::Global;
+use std::alloc::{AllocError, Global};
 use std::marker::Model;
 
 /// The macros that stand, at most one of a name.
@@ -38,7 +40,8 @@ impl Model for Macros {
 
 /// The macro of the name that a line begins with.
 fn macro_at<'a>(macros: &'a [Stored], line: &[PpToken]) -> Option<&'a Stored>
-    ensures { option_map macro_of (option_copied result) ≡ macro_at (map macro_of macros.now) line.now }
+    ensures { option_map macro_of (option_copied result)
+        ≡ macro_at (map macro_of macros.now) line.now }
 {
     let name = line.first()?;
     if name.kind == PpKind::Word {
@@ -55,7 +58,8 @@ fn addition(
     macros: &[Stored],
     line: &[PpToken],
 ) -> Result<Option<Stored>, Halt>
-    ensures { MatchResult result (IsAddition names.now.texts (map macro_of macros.now) line.now) (λ halt. RefusesLine names.now.texts (map macro_of macros.now) line.now (stop_of halt)) }
+    ensures { MatchResult result (IsAddition names.now.texts (map macro_of macros.now) line.now)
+        (λ halt. RefusesLine names.now.texts (map macro_of macros.now) line.now (stop_of halt)) }
 {
     let Some((name, _)) = line.split_first() else {
         return Err(Halt::Refused(11, nowhere()));
@@ -92,7 +96,8 @@ fn addition_beside(
 }
 
 fn take_away(macros: &mut Vec<Stored>, name: Name)
-    ensures { macros.new.items ≡ filter (λ stored. not (same_name stored.name name)) macros.old.items }
+    ensures { macros.new.items ≡ filter (λ stored. not (same_name stored.name name))
+        macros.old.items }
 {
     macros.retain(|stored| stored.name.0 != name.0);
 }
@@ -111,10 +116,12 @@ impl Macros {
     ///
     /// A line that begins with the name of a macro, and is no identical definition of it, is refused as 12 at the name.
     /// Any other line is refused at the first piece that makes it bad: 11 where no name stands or the list of parameters
-    /// is bad, 15 at `...` in that list and at `#` or `##` in the replacement list. Where the line ends too early it is
-    /// 11 at its last piece, and where it is empty 11 at line 0 of file 0.
+    /// is bad, 15 at `...` where a list has it, so behind `(` or a comma, and at `#` or `##` in the replacement list.
+    /// Where the line ends too early it is 11 at its last piece, and where it is empty 11 at line 0 of file 0.
     pub fn define(&mut self, alloc: Global, names: &Names, line: &[PpToken]) -> Result<(), Stop>
-        ensures defined { MatchResult result (λ _. IsDefined names.now.texts self.old line.now self.new) (RefusesLine names.now.texts self.old line.now) }
+        ensures defined { MatchResult result
+            (λ _. IsDefined names.now.texts self.old line.now self.new)
+            (RefusesLine names.now.texts self.old line.now) }
         ensures only { IsOnlyTable names.now.texts self.old line.now result self.new }
         ensures among { IfErr result (λ stop. 0 < length line.now → StopsAmong line.now stop) }
         ensures err { OnErr result (self.new ≡ self.old) }
@@ -127,7 +134,9 @@ impl Macros {
     }
 
     fn add(&mut self, alloc: Global, names: &Names, line: &[PpToken]) -> Result<(), Halt>
-        ensures defined { MatchResult result (λ _. IsDefined names.now.texts self.old line.now self.new) (λ halt. RefusesLine names.now.texts self.old line.now (stop_of halt)) }
+        ensures defined { MatchResult result
+            (λ _. IsDefined names.now.texts self.old line.now self.new)
+            (λ halt. RefusesLine names.now.texts self.old line.now (stop_of halt)) }
         ensures err { OnErr result (self.new ≡ self.old) }
         ensures distinct { IsDistinct self.new }
     {
@@ -173,10 +182,15 @@ impl Macros {
         list: &[PpToken],
         room: u32,
     ) -> Result<Vec<PpToken>, Stop>
-        ensures expanded { MatchResult result (λ out. Expanded (record { texts = names.now.texts; macros = self.now; room = room }) list.now out.items) (IsStop (record { texts = names.now.texts; macros = self.now; room = room }) list.now) }
+        ensures expanded { MatchResult result
+            (λ out. Expanded (record { texts = names.now.texts; macros = self.now; room = room })
+            list.now out.items)
+            (IsStop (record { texts = names.now.texts; macros = self.now; room = room }) list.now) }
         ensures room { IfOk result (λ out. length out.items ≤ room) }
-        ensures among { MatchResult result (λ out. All (λ t. IsAmong list.now t.place) out.items) (StopsAmong list.now) }
-        ensures only { IsOnlyAnswer (record { texts = names.now.texts; macros = self.now; room = room }) list.now result }
+        ensures among { MatchResult result (λ out. All (λ t. IsAmong list.now t.place) out.items)
+            (StopsAmong list.now) }
+        ensures only { IsOnlyAnswer
+            (record { texts = names.now.texts; macros = self.now; room = room }) list.now result }
     {
         let expander = Expander {
             names,
@@ -187,5 +201,33 @@ impl Macros {
             Ok(out) => Ok(out),
             Err(halt) => Err(stop_of(halt)),
         }
+    }
+
+    /// What the pieces of `list` give up to where their expansion ends, as in `expand`, and how it ends. A call that is
+    /// open where the list ends is no refusal here.
+    pub fn given(
+        &self,
+        alloc: Global,
+        names: &Names,
+        list: &[PpToken],
+        room: u32,
+    ) -> Result<Given, AllocError>
+        ensures given { IfOk result
+            (λ given. TextEnds (record { texts = names.now.texts; macros = self.now; room = room })
+            list.now given.pieces.items given.end) }
+        ensures room { IfOk result (λ given. length given.pieces.items ≤ room) }
+        ensures among { IfOk result
+            (λ given. All (λ t. IsAmong list.now t.place) given.pieces.items
+            × EndsAmong list.now given.end) }
+        ensures only { IfOk result
+            (λ given. IsOnlyEnd (record { texts = names.now.texts; macros = self.now; room = room })
+            list.now given.pieces.items given.end) }
+    {
+        let expander = Expander {
+            names,
+            macros: self.macros.as_slice(),
+            room,
+        };
+        expander.given(alloc, list)
     }
 }
