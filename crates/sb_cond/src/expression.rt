@@ -83,7 +83,8 @@ fn prefix_expression<'a>(
 ) -> Result<Read<'a, Operand>, Stopped>
     requires some { 0 < left }
     requires shallow { left ≤ 200 }
-    ensures read { Reads (spec.prefix_expression (spec.is_zero left) (spec.below left) tokens.now) result }
+    ensures read { Reads (spec.prefix_expression (spec.is_zero left) (spec.below left) tokens.now)
+        result }
 {
     let prefix = take_prefix(tokens)?;
     let inner = part(prefix.rest, Entry::Operand, left)?;
@@ -121,7 +122,9 @@ fn operation_on<'a>(
 ) -> Result<Read<'a, Operand>, Stopped>
     requires rank { tighter < 10 }
     requires shallow { left ≤ 200 }
-    ensures read { Reads (spec.operation_on (spec.is_zero left) (spec.below left) tighter (spec.infix_at (spec.is_zero left) (spec.below left) tighter) first.entry.value first.entry.rest.now) result }
+    ensures read { Reads (spec.operation_on (spec.is_zero left) (spec.below left) tighter
+        (spec.infix_at (spec.is_zero left) (spec.below left) tighter) first.entry.value
+        first.entry.rest.now) result }
 {
     let operator = take_operator(tighter + 1, first.rest)?;
     match infix(operator.rest, tighter, left) {
@@ -147,7 +150,10 @@ fn operators<'a>(
 ) -> Result<Read<'a, Operand>, Stopped>
     requires rank { tighter < 10 }
     requires shallow { left ≤ 200 }
-    ensures read { Reads (looped (spec.is_operator (tighter + 1)) (spec.operation_on (spec.is_zero left) (spec.below left) tighter (spec.infix_at (spec.is_zero left) (spec.below left) tighter)) first.entry.value first.entry.rest.now) result }
+    ensures read { Reads (looped (spec.is_operator (tighter + 1))
+        (spec.operation_on (spec.is_zero left) (spec.below left) tighter
+        (spec.infix_at (spec.is_zero left) (spec.below left) tighter)) first.entry.value
+        first.entry.rest.now) result }
 {
     let mut found = first;
     for _turn in 0..first.rest.len() {
@@ -168,7 +174,8 @@ fn infix<'a>(
 ) -> Result<Read<'a, Operand>, Stopped>
     requires rank { rank ≤ 10 }
     requires shallow { left ≤ 200 }
-    ensures read { Reads (spec.infix_at (spec.is_zero left) (spec.below left) rank tokens.now) result }
+    ensures read { Reads (spec.infix_at (spec.is_zero left) (spec.below left) rank tokens.now)
+        result }
 {
     if rank == 0 {
         return operand(tokens, left);
@@ -186,7 +193,8 @@ fn second_branch<'a>(
 ) -> Result<Read<'a, Operand>, Stopped>
     requires some { 0 < left }
     requires shallow { left ≤ 200 }
-    ensures read { Reads (spec.second_branch (spec.is_zero left) (spec.below left) first second.entry.value second.entry.rest.now) result }
+    ensures read { Reads (spec.second_branch (spec.is_zero left) (spec.below left) first
+        second.entry.value second.entry.rest.now) result }
 {
     let fault = fault_selected(first, fault_of(second.value), None);
     let colon = take_mark(Mark::Colon, fault, second.rest)?;
@@ -205,7 +213,8 @@ fn second_branch<'a>(
 fn branches<'a>(first: Read<'a, Operand>, left: u32) -> Result<Read<'a, Operand>, Stopped>
     requires some { 0 < left }
     requires shallow { left ≤ 200 }
-    ensures read { Reads (spec.branches (spec.is_zero left) (spec.below left) first.entry.value first.entry.rest.now) result }
+    ensures read { Reads (spec.branches (spec.is_zero left) (spec.below left) first.entry.value
+        first.entry.rest.now) result }
 {
     let question = take_mark(Mark::Question, None, first.rest)?;
     match part(question.rest, Entry::Whole, left) {
@@ -218,7 +227,8 @@ fn branches<'a>(first: Read<'a, Operand>, left: u32) -> Result<Read<'a, Operand>
 #[tactic(auto, unfolding(crate::specs::Readers::conditional))]
 fn conditional<'a>(tokens: &'a [ConditionToken], left: u32) -> Result<Read<'a, Operand>, Stopped>
     requires shallow { left ≤ 200 }
-    ensures read { Reads (spec.conditional (spec.is_zero left) (spec.below left) tokens.now) result }
+    ensures read { Reads (spec.conditional (spec.is_zero left) (spec.below left) tokens.now)
+        result }
 {
     let first = infix(tokens, 10, left)?;
     if !is_mark_next(Mark::Question, first.rest) {
@@ -238,7 +248,8 @@ fn conditional<'a>(tokens: &'a [ConditionToken], left: u32) -> Result<Read<'a, O
 #[tactic(auto, unfolding(crate::specs::Readers::comma_on))]
 fn comma_on<'a>(first: Read<'a, Operand>, left: u32) -> Result<Read<'a, Operand>, Stopped>
     requires shallow { left ≤ 200 }
-    ensures read { Reads (spec.comma_on (spec.is_zero left) (spec.below left) first.entry.value first.entry.rest.now) result }
+    ensures read { Reads (spec.comma_on (spec.is_zero left) (spec.below left) first.entry.value
+        first.entry.rest.now) result }
 {
     let comma = take_comma(first.rest)?;
     match conditional(comma.rest, left) {
@@ -254,7 +265,8 @@ fn comma_on<'a>(first: Read<'a, Operand>, left: u32) -> Result<Read<'a, Operand>
 #[cycle(expression)]
 fn commas<'a>(first: Read<'a, Operand>, left: u32) -> Result<Read<'a, Operand>, Stopped>
     requires shallow { left ≤ 200 }
-    ensures read { Reads (looped spec.is_comma (spec.comma_on (spec.is_zero left) (spec.below left)) first.entry.value first.entry.rest.now) result }
+    ensures read { Reads (looped spec.is_comma (spec.comma_on (spec.is_zero left) (spec.below left))
+        first.entry.value first.entry.rest.now) result }
 {
     let mut found = first;
     for _turn in 0..first.rest.len() {

@@ -45,7 +45,9 @@ pub fn front_refusal(
 ) -> Result<Option<Place>, AllocError>
     requires count { length front.now < 2 ^ 32 }
     ensures refused { IfOk result (spec.FrontRefused names.now.texts front.now end) }
-    ensures only { IfOk result (λ place. (other : Option Place) → spec.FrontRefused names.now.texts front.now end other → other ≡ place) }
+    ensures only { IfOk result
+        (λ place. (other : Option Place) → spec.FrontRefused names.now.texts front.now end other
+        → other ≡ place) }
 {
     let tokens = tokens_of(alloc, names, front)?;
     match judge_front(tokens.as_slice()) {

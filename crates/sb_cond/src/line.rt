@@ -128,7 +128,8 @@ fn sign_of(kind: PpKind, text: &[u8]) -> Sign
 }
 
 fn sign_in(names: &Names, piece: &PpToken) -> Sign
-    ensures sign { spec.HasSignIn piece.now.kind (slice_get names.now.texts piece.now.text.0) result }
+    ensures sign { spec.HasSignIn piece.now.kind (slice_get names.now.texts piece.now.text.0)
+        result }
 {
     match names.text(piece.text) {
         Some(text) => sign_of(piece.kind, text),
@@ -166,8 +167,10 @@ pub fn condition(alloc: Global, names: &Names, line: &[PpToken], end: Place) -> 
     requires count { length line.now < 2 ^ 32 }
     ensures holds { IfOk result (spec.LineHolds names.now.texts line.now) }
     ensures fault { IfErr result (spec.IsLineFault names.now.texts line.now end) }
-    ensures only { (holds : Bool) → spec.LineHolds names.now.texts line.now holds → spec.IsAnswer holds result }
-    ensures only_refused { (refusal : Refusal) → spec.LineRefused names.now.texts line.now end refusal → spec.IsRefusal refusal result }
+    ensures only { (holds : Bool) → spec.LineHolds names.now.texts line.now holds
+        → spec.IsAnswer holds result }
+    ensures only_refused { (refusal : Refusal) → spec.LineRefused names.now.texts line.now end
+        refusal → spec.IsRefusal refusal result }
 {
     let Ok(tokens) = tokens_of(alloc, names, line) else {
         return Err(Stop::Memory);

@@ -2,6 +2,7 @@
 use Rattle.std.proofs.Common.{◌≡◌, ◌++◌, ◌<◌, ◌≤◌, ◌+◌, [], ℕ, List, Bool, Option, Some, None, suc, true, false, refl, append_assoc, add-one, drop, length, get_or, drop-cons}
 use Rattle.std.proofs.Math.ListN.{drop_of_length-le}
 use Rattle.std.specs.Prelude.{codes}
+use Rattle.sb_base.specs.declared.refusals.Place.{Place}
 use Rattle.sb_lex.specs.declared.piece.PpToken.{PpToken}
 use Rattle.sb_directive.specs.Lines.{spelling, is_spelled}
 use Rattle.sb_directive.specs.Headers.{with_space, before_text, up_to_angle}
@@ -10,7 +11,7 @@ space_first : (spaced : Bool) (text : List ℕ) → with_space spaced text ≡ w
 space_first true text = refl
 space_first false text = refl
 
-joined : (text space spelled : List ℕ) (rest : Option (List ℕ)) → before_text text (before_text (space ++ spelled) rest) ≡ before_text ((text ++ space) ++ spelled) rest
+joined : (text space spelled : List ℕ) (rest : Option (List ℕ × Place)) → before_text text (before_text (space ++ spelled) rest) ≡ before_text ((text ++ space) ++ spelled) rest
 joined text space spelled None = refl
 joined text space spelled (Some more) = simp append_assoc
 
@@ -27,7 +28,7 @@ module _ (texts : List (List ℕ)) (all : List PpToken) where
       same (Some text) = refl
 
   pub Gathered-closed : (text : List ℕ) (n : ℕ) (default : PpToken) → n < length all → Gathered texts all text n → is_spelled (codes ">") texts (get_or all n default) ≡ true
-      → Some (text ++ with_space (get_or all n default).spaced []) ≡ up_to_angle texts all
+      → Some (text ++ with_space (get_or all n default).spaced [], (get_or all n default).place) ≡ up_to_angle texts all
   Gathered-closed text n default within gathered closes = rw (gathered.whole, drop-cons all n default within, closes) refl
 
   pub Gathered-more : (text : List ℕ) (n : ℕ) (default : PpToken) → n < length all → Gathered texts all text n → is_spelled (codes ">") texts (get_or all n default) ≡ false

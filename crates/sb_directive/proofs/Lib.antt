@@ -6,3 +6,6 @@ pub mod Preparations
 pub mod RulesOnce
 pub mod Truths
 pub mod DistinctTexts
+pub mod Sought
+pub mod SeekingOnce
+pub mod Groups

@@ -1,26 +1,30 @@
 -- Where a condition is refused.
-use Rattle.std.proofs.Common.{◌≡◌, ◌∙◌, ◌⊎◌, ◌<◌, ◌∷◌, ◌-◌, inl, inr, [], ℕ, suc, List, Bool, Result, Ok, Err, MatchResult, IfOk, IfErr, not, Option, Some, None, arith, ap, sym, subst, refl, length, get_or}
-use Rattle.std.specs.List.{All, prefix_len}
+use Rattle.std.proofs.Common.{◌≡◌, ◌∙◌, ◌⊎◌, ◌<◌, ◌∷◌, ◌-◌, inl, inr, [], ℕ, suc, List, Bool, true, false, Result, Ok, Err, MatchResult, IfOk, IfErr, if◌then◌else◌, Option, Some, None, arith, ap, sym, subst, refl, length, get_or}
+use Rattle.std.specs.List.{All}
 use Rattle.std.specs.Option.{option_map}
 use Rattle.std.proofs.lemmas.Option.{slice_get_cases}
-use Rattle.std.proofs.lemmas.List.Elements.{All-nil, All-cons, All-take, All-weaker, All-contains}
+use Rattle.std.proofs.lemmas.List.Elements.{All-nil, All-cons, All-weaker, All-contains}
 use Rattle.sb_base.specs.declared.interning.Name.{Name}
 use Rattle.sb_base.specs.declared.refusals.Place.{Place}
 use Rattle.sb_base.specs.declared.refusals.Refusal.{Refusal}
 use Rattle.sb_base.specs.declared.refusals.Stop.{Stop}
 use Rattle.sb_base.specs.declared.refusals.Stop.TheVariants as stop
 use Rattle.sb_lex.specs.declared.piece.PpToken.{PpToken}
+use Rattle.sb_macro.specs.declared.ending.End.{End}
+use Rattle.sb_macro.specs.declared.ending.End.TheVariants as end
+use Rattle.sb_macro.specs.Endings.{EndsAmong}
 use Rattle.sb_cond.specs.Condition.{LineHolds, LineRefused, IsLineFault, place_in}
 use Rattle.sb_cond.specs.Front.{FrontRefused}
-use Rattle.sb_directive.specs.Conditions.{HasTruth, HasNoTruth, StopsBehind, IsFirst, is_place, pieces_before}
-use Rattle.sb_directive.specs.Judging.{IsFirstRefusal}
+use Rattle.sb_directive.specs.Conditions.{HasTruth, HasNoTruth, StopsBehind, comes_first, sooner}
+use Rattle.sb_directive.specs.Judging.{IsFirstRefusal, ending_of, refusal_of}
 use Rattle.sb_directive.specs.Preparing.{IsPreparation}
 use Rattle.sb_directive.specs.Defined.{HasName, HasNoName, Prepared, replaced_by}
 use Rattle.sb_directive.specs.Ending.{Ending, Ended, Refused}
 use Rattle.sb_directive.specs.Limits.{most_tokens}
 use Rattle.sb_directive.specs.Lines.{end_of}
-use Rattle.sb_directive.specs.Rules.{Table, IsExpansion, HasStopped}
+use Rattle.sb_directive.specs.Rules.{Table, IsExpansion, HasEnded}
 use Rattle.sb_directive.specs.Stopping.{IsStop, IsAmong}
+use Rattle.sb_directive.proofs.RulesOnce.{whole_expands}
 
 -- ---- places of pieces
 
@@ -85,51 +89,86 @@ module _ (limit : ℕ) (table : Table) where
 
 -- ---- conditions
 
-module _ (texts : List (List ℕ)) (table : Table) (front : List PpToken) (refusal : Refusal) where
-  found_among : (out : List PpToken) (end place : Place) (at : Option ℕ) → All (λ t. IsAmong front t.place) out → Some place ≡ option_map (place_in out end) at → (place ≡ end) ⊎ IsAmong front place
-  found_among out end place None all is = absurd (cc is)
-  found_among out end place (Some k) all is =
-      let same : place ≡ place_in out end k = cc is in
-      elim (place_at out end k) [ inl ends ↦ inl (same ∙ ends) | inr among ↦ inr (rw same (among_within front out (place_in out end k) all among)) ]
+-- the 26 of a front stands among its pieces, or at its end
+front_among : (texts : List (List ℕ)) (given : List PpToken) (end place : Place) → FrontRefused texts given end (Some place) → (place ≡ end) ⊎ IsAmong given place
+front_among texts given end place found = by_position found.at found.is
+  where
+    by_position : (at : Option ℕ) → Some place ≡ option_map (place_in given end) at → (place ≡ end) ⊎ IsAmong given place
+    by_position None is = absurd (cc is)
+    by_position (Some k) is =
+        let same : place ≡ place_in given end k = cc is in
+        elim (place_at given end k) [ inl ends ↦ inl (same ∙ ends) | inr among ↦ inr (rw same among) ]
 
-  pub front_first : (out : List PpToken) (place : Place) (why : Stop) → IsExpansion texts table most_tokens front out → All (λ t. IsAmong front t.place) out → FrontRefused texts out refusal.place (Some place)
-      → why ≡ stop.Refused (record { number = 26; place = place; feature = 0 }) → IsFirstRefusal texts table front refusal why
-  front_first out place why expansion all found is =
-      subst (IsFirstRefusal texts table front refusal) (sym is) (inr (IsFirst.judged out (Some place) expansion found, refl, refl, found_among out refusal.place place found.at all found.is))
+-- so the sooner of it and of a refusal at its end does
+sooner_among : (texts : List (List ℕ)) (given : List PpToken) (number : ℕ) (place : Place) (first : Option Place) → FrontRefused texts given place first
+    → ((sooner number place first).1 ≡ place) ⊎ IsAmong given (sooner number place first).1
+sooner_among texts given number place None found = inl refl
+sooner_among texts given number place (Some first) found = by_order (comes_first first number place)
+  where
+    by_order : (before : Bool) → ((if◌then◌else◌ {A = ℕ × Place} before (26, first) (number, place)).1 ≡ place) ⊎ IsAmong given (if◌then◌else◌ {A = ℕ × Place} before (26, first) (number, place)).1
+    by_order true = front_among texts given place first found
+    by_order false = inl refl
 
-  pub front_sound : (out : List PpToken) → IsExpansion texts table most_tokens front out → FrontRefused texts out refusal.place None → IsFirstRefusal texts table front refusal (stop.Refused refusal)
-  front_sound out expansion found = inl (IsFirst.judged out None expansion found, refl)
-
-  pub front_stopped : (number : ℕ) (place : Place) → HasStopped texts table most_tokens front number place → IsFirstRefusal texts table front refusal (stop.Refused refusal)
-  front_stopped number place halt = inl (IsFirst.not_judged number place halt, refl)
+pub first_is : (texts : List (List ℕ)) (given : List PpToken) (number n : ℕ) (place p : Place) (first : Option Place) (why : Stop) → FrontRefused texts given place first
+    → ◌≡◌ {A = ℕ × Place} (sooner number place first) (n, p) → why ≡ stop.Refused (record { number = n; place = p; feature = 0 }) → IsFirstRefusal texts given number place why
+first_is texts given number n place p first why found so is = subst (IsFirstRefusal texts given number place) (sym is) (first, found, so, refl)
 
 module _ (limit : ℕ) (texts : List (List ℕ)) (table : Table) (at : Place) (line : List PpToken) where
   -- where a condition is refused
   abbrev pub IsUntrue : Stop → Type 0
   IsUntrue = IsStop (λ number place. HasNoTruth limit texts table at line number place × ((place ≡ at) ⊎ IsAmong line place))
 
-  pub stops : (front : List PpToken) (later : List (List ℕ)) (refusal : Refusal) (why : Stop) → StopsBehind limit texts table line front refusal.number refusal.place later → refusal.feature ≡ 0
-      → IsAmong line refusal.place → All (λ t. IsAmong line t.place) front → IsFirstRefusal later table front refusal why → IsUntrue why
-  stops front later refusal stop.Memory behind featureless among all first = tt
-  stops front later refusal (stop.Refused r) behind featureless among all (inl this) =
-      rw this.1 ((HasNoTruth.stopped front refusal.number refusal.place later behind this.0, inr among), featureless)
-  stops front later refusal (stop.Refused r) behind featureless among all (inr earlier) =
-      let here : IsAmong line r.place = elim earlier.3 [ inl same ↦ subst (IsAmong line) (sym same) among | inr inside ↦ among_within line front r.place all inside ] in
-      let no_truth : HasNoTruth limit texts table at line r.number r.place = rw earlier.1 (HasNoTruth.before front refusal.number refusal.place r.place later behind earlier.0) in
-      ((no_truth, inr here), earlier.2)
+  -- a place of a line, or of its word
+  abbrev IsHere : Place → Type 0
+  IsHere place = (place ≡ at) ⊎ IsAmong line place
 
-  pub at_operator : (front : List PpToken) (later : List (List ℕ)) (refusal : Refusal) (why : Stop) → IsPreparation limit table texts line front later (Some refusal)
-      → IsFirstRefusal later table front refusal why → IsUntrue why
-  at_operator front later refusal why made first =
-      stops front later refusal why (StopsBehind.at_operator front refusal.number refusal.place later made.0) made.1 (refused_among limit table made.0) (prepared_among limit table made.0) first
+  stops : (given : List PpToken) (later : List (List ℕ)) (number : ℕ) (place : Place) (why : Stop) → StopsBehind limit texts table at line given number place later
+      → IsHere place → All (λ t. IsAmong line t.place) given → IsFirstRefusal later given number place why → IsUntrue why
+  stops given later number place stop.Memory behind among all first = tt
+  stops given later number place (stop.Refused r) behind among all found =
+      let there : (sooner number place found.0).1 ≡ r.place = ap (λ (x : ℕ × Place). x.1) found.2 in
+      let here : IsHere (sooner number place found.0).1 = elim (sooner_among later given number place found.0 found.1) [
+        | inl same ↦ subst IsHere (sym same) among
+        | inr inside ↦ inr (among_within line given (sooner number place found.0).1 all inside)
+      ] in
+      ((HasNoTruth.stopped given number r.number place r.place found.0 later behind found.1 found.2, subst IsHere there here), found.3)
 
-  pub in_macros : (prepared : List PpToken) (later : List (List ℕ)) (refusal : Refusal) (why : Stop) → Prepared limit table texts line prepared later Ended
-      → HasStopped later table most_tokens prepared refusal.number refusal.place → IsAmong prepared refusal.place → refusal.feature ≡ 0
-      → IsFirstRefusal later table (pieces_before refusal.place prepared) refusal why → IsUntrue why
-  in_macros prepared later refusal why made halt among featureless first =
-      let each = prepared_among limit table made in
-      stops (pieces_before refusal.place prepared) later refusal why (StopsBehind.in_macros prepared refusal.number refusal.place later made halt) featureless (among_within line prepared refusal.place each among)
-      (All-take (λ t. IsAmong line t.place) (prefix_len (λ t. not (is_place t.place refusal.place)) prepared) prepared each) first
+  preparation_among : (pieces : List PpToken) (later : List (List ℕ)) (refusal : Option Refusal) → IsPreparation limit table texts line pieces later refusal → All (λ t. IsAmong line t.place) pieces
+  preparation_among pieces later None made = prepared_among limit table made
+  preparation_among pieces later (Some r) made = prepared_among limit table made.0
+
+  end_here : (pieces : List PpToken) → All (λ t. IsAmong line t.place) pieces → IsHere (end_of at pieces)
+  end_here pieces each = elim (end_at at pieces) [ inl same ↦ inl same | inr among ↦ inr (among_within line pieces (end_of at pieces) each among) ]
+
+  -- a line is refused so, behind these pieces
+  abbrev IsStopped : List PpToken → List (List ℕ) → ℕ × Place → Type 0
+  IsStopped given later x = StopsBehind limit texts table at line given x.0 x.1 later × IsHere x.1
+
+  same_stop : (given : List PpToken) (later : List (List ℕ)) (x y : ℕ × Place) → ◌≡◌ {A = Option (ℕ × Place)} (Some x) (Some y) → IsStopped given later x → IsStopped given later y
+  same_stop given later x y is stops = let same : x ≡ y = cc is in subst (IsStopped given later) same stops
+
+  stopped_by : (pieces given : List PpToken) (later : List (List ℕ)) (refusal : Option Refusal) (how : End) (x : ℕ × Place) → IsPreparation limit table texts line pieces later refusal
+      → HasEnded later table most_tokens pieces given how → EndsAmong pieces how → refusal_of (ending_of refusal) how (end_of at pieces) ≡ Some x → IsStopped given later x
+  stopped_by pieces given later None (end.Refused n p) x made ended among is =
+      same_stop given later (n, p) x is (StopsBehind.in_macros pieces given Ended n p later made ended, inr (among_within line pieces p (prepared_among limit table made) among))
+  stopped_by pieces given later (Some r) (end.Refused n p) x made ended among is =
+      same_stop given later (n, p) x is
+      (StopsBehind.in_macros pieces given (Refused r.number r.place) n p later made.0 ended, inr (among_within line pieces p (prepared_among limit table made.0) among))
+  stopped_by pieces given later None end.Open x made ended among is =
+      same_stop given later (14, end_of at pieces) x is (StopsBehind.in_call pieces given later made ended, end_here pieces (prepared_among limit table made))
+  stopped_by pieces given later (Some r) end.Open x made ended among is =
+      same_stop given later (r.number, r.place) x is (StopsBehind.at_operator pieces given end.Open r.number r.place later made.0 ended refl, inr (refused_among limit table made.0))
+  stopped_by pieces given later None end.Whole x made ended among is = absurd (cc is)
+  stopped_by pieces given later (Some r) end.Whole x made ended among is =
+      same_stop given later (r.number, r.place) x is (StopsBehind.at_operator pieces given end.Whole r.number r.place later made.0 ended refl, inr (refused_among limit table made.0))
+
+  pub refused : (pieces given : List PpToken) (later : List (List ℕ)) (refusal : Option Refusal) (how : End) (x : ℕ × Place) (why : Stop)
+      → IsPreparation limit table texts line pieces later refusal → HasEnded later table most_tokens pieces given how → All (λ t. IsAmong pieces t.place) given × EndsAmong pieces how
+      → refusal_of (ending_of refusal) how (end_of at pieces) ≡ Some x → IsFirstRefusal later given x.0 x.1 why → IsUntrue why
+  refused pieces given later refusal how x why made ended among is first =
+      let each = preparation_among pieces later refusal made in
+      let stop = stopped_by pieces given later refusal how x made ended among.1 is in
+      stops given later x.0 x.1 why stop.0 stop.1 (all_within line pieces given each among.0) first
 
   judged_among : (out : List PpToken) (k : ℕ) (place : Place) → All (λ t. IsAmong line t.place) out → place ≡ place_in out (end_of at line) k → (place ≡ at) ⊎ IsAmong line place
   judged_among out k place all is =
@@ -152,3 +191,15 @@ module _ (limit : ℕ) (texts : List (List ℕ)) (table : Table) (at : Place) (l
         ),
         featureless,
       )
+
+  -- nothing refuses it before
+  pub judged_whole : (pieces given : List PpToken) (later : List (List ℕ)) (refusal : Option Refusal) (how : End) (result : Result Bool Stop)
+      → IsPreparation limit table texts line pieces later refusal → HasEnded later table most_tokens pieces given how → All (λ t. IsAmong pieces t.place) given × EndsAmong pieces how
+      → refusal_of (ending_of refusal) how (end_of at pieces) ≡ None → IfOk result (LineHolds later given) → IfErr result (IsLineFault later given (end_of at line))
+      → MatchResult result (λ truth. HasTruth limit texts table at line truth later) IsUntrue
+  judged_whole pieces given later None end.Whole result made ended among is good bad =
+      judged pieces given later result made (whole_expands later table most_tokens pieces given end.Whole ended refl) among.0 good bad
+  judged_whole pieces given later refusal (end.Refused n p) result made ended among is good bad = absurd (cc is)
+  judged_whole pieces given later None end.Open result made ended among is good bad = absurd (cc is)
+  judged_whole pieces given later (Some r) end.Open result made ended among is good bad = absurd (cc is)
+  judged_whole pieces given later (Some r) end.Whole result made ended among is good bad = absurd (cc is)

@@ -1,6 +1,7 @@
 -- the file that an `#include` names (C99 6.10.2), and the four headers that are built in
 use Rattle.std.specs.Prelude.{ℕ, ◌-◌, Bool, true, false, List, [], ◌∷◌, ◌++◌, Option, Some, None, if◌then◌else◌, length, take, drop, nat_eq, codes}
 use Rattle.std.specs.Str.{bytes_eq}
+use Rattle.sb_base.specs.declared.refusals.Place.{Place}
 use Rattle.sb_base.specs.declared.tokens.PpKind.{PpKind}
 use Rattle.sb_base.specs.declared.tokens.PpKind.TheVariants as kind
 use Rattle.sb_lex.specs.declared.piece.PpToken.{PpToken}
@@ -22,42 +23,55 @@ is_header t = is_header_kind t.kind
 abbrev pub inside : List ℕ → List ℕ
 inside text = drop 1 (take (length text - 1) text)
 
--- a header name that is not empty
-abbrev pub named : (List ℕ → Header) → List ℕ → Option Header
-named header [] = None
-named header (b ∷ bs) = Some (header (b ∷ bs))
+-- how the pieces of a line begin, once macros are replaced
+pub data Beginning : Type 0 where
+  -- with a header, which they name, at the place of its first piece: `"a.h" x` at the literal, `<a.h>` at `<`
+  Names : Header → Place → Beginning
+  -- as no header does, which is seen at this piece: `x` at it, `<>` at `>`
+  Bad : Place → Beginning
+  -- as a header does, but they end before it does: `<x.h`
+  Ends : Beginning
 
--- by its first byte
-abbrev pub header_spelled : List ℕ → Option Header
-header_spelled [] = None
-header_spelled (b ∷ bs) = if nat_eq b 60 then named Angle (inside (b ∷ bs)) else named Quote (inside (b ∷ bs))
+-- by the name of a header that begins at `at`, and whose last piece stands at `closing`: `""` is bad at the literal, `<>` at `>`
+abbrev pub named : (List ℕ → Header) → (at closing : Place) → List ℕ → Beginning
+named header at closing [] = Bad closing
+named header at closing (b ∷ bs) = Names (header (b ∷ bs)) at
 
--- the spellings up to `>`, with one space where white space stood between
+-- a header name as it stands, by its first byte: `<` of `<a.h>`, a quote of `"a.h"`; no piece has no byte
+abbrev pub header_spelled : Place → List ℕ → Beginning
+header_spelled at [] = Bad at
+header_spelled at (b ∷ bs) = if nat_eq b 60 then named Angle at at (inside (b ∷ bs)) else named Quote at at (inside (b ∷ bs))
+
+-- the spellings up to `>`, with one space where white space stood between, and the place of the `>`: of `a .h >` they are ` a .h `
+-- where white space stands before `a`
 abbrev pub with_space : Bool → List ℕ → List ℕ
 with_space spaced text = if spaced then 32 ∷ text else text
 
-abbrev pub before_text : List ℕ → Option (List ℕ) → Option (List ℕ)
+abbrev pub before_text : List ℕ → Option (List ℕ × Place) → Option (List ℕ × Place)
 before_text text None = None
-before_text text (Some more) = Some (text ++ more)
+before_text text (Some more) = Some (text ++ more.0, more.1)
 
-abbrev pub up_to_angle : List (List ℕ) → List PpToken → Option (List ℕ)
+abbrev pub up_to_angle : List (List ℕ) → List PpToken → Option (List ℕ × Place)
 up_to_angle texts [] = None
-up_to_angle texts (t ∷ ts) = if is_spelled (codes ">") texts t then Some (with_space t.spaced []) else before_text (with_space t.spaced (spelling texts t)) (up_to_angle texts ts)
+up_to_angle texts (t ∷ ts) =
+    if is_spelled (codes ">") texts t then Some (with_space t.spaced [], t.place) else before_text (with_space t.spaced (spelling texts t)) (up_to_angle texts ts)
 
-abbrev pub angle_of : Option (List ℕ) → Option Header
-angle_of None = None
-angle_of (Some text) = named Angle text
+-- behind a `<` that stands at `at`: `x.h` ends too early, `x.h>` names a header
+abbrev pub angle_of : Place → Option (List ℕ × Place) → Beginning
+angle_of at None = Ends
+angle_of at (Some found) = named Angle at found.1 found.0
 
--- the header that the pieces behind `include` name, once macros are replaced; what stands behind it is passed over
-abbrev pub header_by_kind : PpKind → List (List ℕ) → PpToken → List PpToken → Option Header
-header_by_kind kind.Header texts t ts = header_spelled (spelling texts t)
-header_by_kind kind.Text texts t ts = named Quote (inside (spelling texts t))
-header_by_kind kind.Punct texts t ts = if is_spelled (codes "<") texts t then angle_of (up_to_angle texts ts) else None
-header_by_kind _ texts t ts = None
+-- by the first piece: a header name `<a.h>`, a string literal `"a.h"`, or `<`; `>` is bad, and so is `x`. What stands behind the header is passed over
+abbrev pub beginning_by : PpKind → List (List ℕ) → PpToken → List PpToken → Beginning
+beginning_by kind.Header texts t ts = header_spelled t.place (spelling texts t)
+beginning_by kind.Text texts t ts = named Quote t.place t.place (inside (spelling texts t))
+beginning_by kind.Punct texts t ts = if is_spelled (codes "<") texts t then angle_of t.place (up_to_angle texts ts) else Bad t.place
+beginning_by _ texts t ts = Bad t.place
 
-abbrev pub header_of : List (List ℕ) → List PpToken → Option Header
-header_of texts [] = None
-header_of texts (t ∷ ts) = header_by_kind t.kind texts t ts
+-- where macros leave nothing, they end too early
+abbrev pub beginning : List (List ℕ) → List PpToken → Beginning
+beginning texts [] = Ends
+beginning texts (t ∷ ts) = beginning_by t.kind texts t ts
 
 abbrev pub line : List ℕ → List ℕ
 line text = text ++ (10 ∷ [])

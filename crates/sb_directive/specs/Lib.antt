@@ -1,5 +1,6 @@
 pub mod Lines
 pub mod Branches
+pub mod Sections
 pub mod Headers
 pub mod Sources
 pub mod Rules
@@ -11,3 +12,4 @@ pub mod Defined
 pub mod Preparing
 pub mod Conditions
 pub mod Judging
+pub mod Seeking

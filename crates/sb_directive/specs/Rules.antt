@@ -4,6 +4,8 @@ use Rattle.sb_base.specs.declared.interning.Name.{Name}
 use Rattle.sb_base.specs.declared.refusals.Place.{Place}
 use Rattle.sb_lex.specs.declared.piece.PpToken.{PpToken}
 use Rattle.sb_macro.specs.Defines.{IsDefined, IsRefused}
+use Rattle.sb_macro.specs.declared.ending.End.{End}
+use Rattle.sb_macro.specs.Endings.{TextEnds}
 use Rattle.sb_macro.specs.Expansion.{Scope, Expanded, Stops, place_of_last}
 use Rattle.sb_macro.specs.Halts.{refusal}
 use Rattle.sb_macro.specs.Macros.{Macro, macro_named, without}
@@ -26,6 +28,10 @@ IsExpansion texts table room pieces out = Expanded (scope_of texts table room) p
 -- the pieces are refused by this number at this place
 unfoldable pub HasStopped : List (List ℕ) → Table → ℕ → List PpToken → ℕ → Place → Type 0
 HasStopped texts table room pieces number place = Stops (scope_of texts table room) (place_of_last pieces) (fresh pieces) number place
+
+-- macros give `out` of the pieces, and end so
+unfoldable pub HasEnded : List (List ℕ) → Table → ℕ → List PpToken → List PpToken → End → Type 0
+HasEnded texts table room pieces out how = TextEnds (scope_of texts table room) pieces out how
 
 -- the pieces behind `#define` make this of the table
 unfoldable pub IsDefinition : List (List ℕ) → Table → List PpToken → Table → Type 0

@@ -39,7 +39,9 @@ pub enum Asks {
 
 /// The word that has to stand behind `ifdef`, `ifndef` and `undef`, or the refusal of the line.
 fn word_behind(at: Place, rest: &[PpToken]) -> Result<PpToken, Asks>
-    ensures word { MatchResult result (λ word. (asks : PpToken → Asks) → spec.on_word at asks rest.now ≡ asks word) (λ refusal. (asks : PpToken → Asks) → spec.on_word at asks rest.now ≡ refusal) }
+    ensures word { MatchResult result
+        (λ word. (asks : PpToken → Asks) → spec.on_word at asks rest.now ≡ asks word)
+        (λ refusal. (asks : PpToken → Asks) → spec.on_word at asks rest.now ≡ refusal) }
 {
     match rest.first() {
         Some(word) if is_word(word) => Ok(*word),
@@ -49,7 +51,8 @@ fn word_behind(at: Place, rest: &[PpToken]) -> Result<PpToken, Asks>
 }
 
 fn ifdef(rules: &Rules, at: Place, rest: &[PpToken]) -> Asks
-    ensures asks { result ≡ spec.on_word at (λ t. Asks.Opens (new_branch (is_macro rules.now t.text))) rest.now }
+    ensures asks { result ≡ spec.on_word at
+        (λ t. Asks.Opens (new_branch (is_macro rules.now t.text))) rest.now }
 {
     match word_behind(at, rest) {
         Ok(word) => Asks::Opens(new_branch(rules.is_defined(word.text))),
@@ -58,7 +61,8 @@ fn ifdef(rules: &Rules, at: Place, rest: &[PpToken]) -> Asks
 }
 
 fn ifndef(rules: &Rules, at: Place, rest: &[PpToken]) -> Asks
-    ensures asks { result ≡ spec.on_word at (λ t. Asks.Opens (new_branch (not (is_macro rules.now t.text)))) rest.now }
+    ensures asks { result ≡ spec.on_word at
+        (λ t. Asks.Opens (new_branch (not (is_macro rules.now t.text)))) rest.now }
 {
     match word_behind(at, rest) {
         Ok(word) => Asks::Opens(new_branch(!rules.is_defined(word.text))),
@@ -77,7 +81,9 @@ fn undef(at: Place, rest: &[PpToken]) -> Asks
 
 /// The innermost branch, whose `#else` has not come; without it `#elif` and `#else` are refused.
 fn open_branch(at: Place, branches: &Branches) -> Result<Branch, Asks>
-    ensures branch { MatchResult result (λ branch. (asks : Branch → Asks) → spec.on_branch at asks branches.now ≡ asks branch) (λ refusal. (asks : Branch → Asks) → spec.on_branch at asks branches.now ≡ refusal) }
+    ensures branch { MatchResult result
+        (λ branch. (asks : Branch → Asks) → spec.on_branch at asks branches.now ≡ asks branch)
+        (λ refusal. (asks : Branch → Asks) → spec.on_branch at asks branches.now ≡ refusal) }
 {
     match branches.innermost() {
         Some(branch) if !branch.after_else => Ok(branch),
@@ -86,7 +92,9 @@ fn open_branch(at: Place, branches: &Branches) -> Result<Branch, Asks>
 }
 
 fn elif(at: Place, branches: &Branches) -> Asks
-    ensures asks { result ≡ spec.on_branch at (λ b. if may_read b then Asks.TurnsIf b else Asks.Becomes (next_group b false)) branches.now }
+    ensures asks { result ≡ spec.on_branch at
+        (λ b. if may_read b then Asks.TurnsIf b else Asks.Becomes (next_group b false))
+        branches.now }
 {
     match open_branch(at, branches) {
         Ok(branch) if may_read(branch) => Asks::TurnsIf(branch),
@@ -152,7 +160,8 @@ fn asks_read(
     directive: Directive,
 ) -> Asks
     requires read { is_read branches.now ≡ true }
-    ensures asks { result ≡ spec.asks_of names.now.texts rules.now branches.now at rest.now directive }
+    ensures asks { result ≡ spec.asks_of names.now.texts rules.now branches.now at rest.now
+        directive }
 {
     match directive {
         Directive::Null => Asks::Nothing,
@@ -175,7 +184,8 @@ fn asks_read(
 /// The same where the text around the line is skipped: branches alone are looked at.
 fn asks_skipped(branches: &Branches, at: Place, directive: Directive) -> Asks
     requires skipped { is_read branches.now ≡ false }
-    ensures asks { (texts : List (List ℕ)) (table : Table) (rest : List PpToken) → result ≡ spec.asks_of texts table branches.now at rest directive }
+    ensures asks { (texts : List (List ℕ)) (table : Table) (rest : List PpToken) → result
+        ≡ spec.asks_of texts table branches.now at rest directive }
 {
     match directive {
         Directive::If | Directive::Ifdef | Directive::Ifndef => Asks::Opens(skipped_branch()),

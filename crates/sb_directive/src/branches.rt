@@ -104,7 +104,8 @@ impl Branches {
 
     /// A new innermost branch.
     pub fn open(&mut self, branch: Branch) -> Result<(), Stop>
-        ensures opened { MatchResult result (λ _. self.new ≡ branch ∷ self.old) (λ stop. stop ≡ Stop.Memory) }
+        ensures opened { MatchResult result (λ _. self.new ≡ branch ∷ self.old)
+            (λ stop. stop ≡ Stop.Memory) }
     {
         match self.stack.push(branch) {
             Ok(()) => Ok(()),
@@ -121,7 +122,8 @@ impl Branches {
 
     /// The innermost branch is so from here on.
     pub fn replace(&mut self, branch: Branch) -> Result<(), Stop>
-        ensures replaced { MatchResult result (λ _. self.new ≡ branch ∷ drop 1 self.old) (λ stop. stop ≡ Stop.Memory) }
+        ensures replaced { MatchResult result (λ _. self.new ≡ branch ∷ drop 1 self.old)
+            (λ stop. stop ≡ Stop.Memory) }
     {
         self.close();
         self.open(branch)

@@ -38,7 +38,9 @@ fn name_behind<'a>(
     at: Place,
     behind: &'a [PpToken],
 ) -> Result<(Name, &'a [PpToken]), Place>
-    ensures named { MatchResult result (λ found. spec.HasName names.now.texts behind.now found.0 found.1.now) (spec.HasNoName names.now.texts at behind.now) }
+    ensures named { MatchResult result
+        (λ found. spec.HasName names.now.texts behind.now found.0 found.1.now)
+        (spec.HasNoName names.now.texts at behind.now) }
 {
     let Some((first, inside)) = behind.split_first() else {
         return Err(at);
@@ -69,7 +71,8 @@ fn digit(
     operator: &PpToken,
     is_macro: bool,
 ) -> Result<PpToken, Stop>
-    ensures digit { IsDigit names.old.limit names.old.texts operator.now (spec.digit_of is_macro) names.new.texts result }
+    ensures digit { IsDigit names.old.limit names.old.texts operator.now (spec.digit_of is_macro)
+        names.new.texts result }
     ensures limit { names.new.limit ≡ names.old.limit }
     ensures distinct { IsDistinct names.old.texts → IsDistinct names.new.texts }
 {
@@ -99,8 +102,12 @@ fn first_piece<'a>(
     rules: &Rules,
     pieces: &'a [PpToken],
 ) -> Result<Option<(PpToken, &'a [PpToken])>, Stop>
-    ensures piece { IfOk result (λ first. MatchOption first ((pieces.now ≡ []) × (names.new.texts ≡ names.old.texts)) (λ f. Begins names.old.limit rules.now names.old.texts pieces.now names.new.texts f.0 f.1.now)) }
-    ensures refused { IfErr result (IsNotBegun names.old.limit rules.now names.old.texts pieces.now names.new.texts) }
+    ensures piece { IfOk result
+        (λ first. MatchOption first ((pieces.now ≡ []) × (names.new.texts ≡ names.old.texts))
+        (λ f. Begins names.old.limit rules.now names.old.texts pieces.now names.new.texts f.0
+        f.1.now)) }
+    ensures refused { IfErr result
+        (IsNotBegun names.old.limit rules.now names.old.texts pieces.now names.new.texts) }
     ensures limit { names.new.limit ≡ names.old.limit }
     ensures distinct { IsDistinct names.old.texts → IsDistinct names.new.texts }
 {
@@ -132,10 +139,13 @@ pub(crate) fn prepare(
     rules: &Rules,
     line: &[PpToken],
 ) -> Result<Preparation, AllocError>
-    ensures prepared { IfOk result (λ made. IsPreparation names.old.limit rules.now names.old.texts line.now made.pieces.items names.new.texts made.refusal) }
+    ensures prepared { IfOk result
+        (λ made. IsPreparation names.old.limit rules.now names.old.texts line.now made.pieces.items
+        names.new.texts made.refusal) }
     ensures limit { names.new.limit ≡ names.old.limit }
     ensures distinct { IsDistinct names.old.texts → IsDistinct names.new.texts }
-    ensures only { IsDistinct names.old.texts → spec.HasOnePreparation names.old.limit rules.now names.old.texts line.now }
+    ensures only { IsDistinct names.old.texts → spec.HasOnePreparation names.old.limit rules.now
+        names.old.texts line.now }
 {
     let mut pieces = Vec::new(alloc);
     let mut rest = line;

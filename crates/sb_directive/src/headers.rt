@@ -1,12 +1,12 @@
 //! The headers that `#include` names (C99 6.10.2), and those that are built in.
 ghost use Rattle.std.specs.Prelude.{◌≡◌, [], ◌∷◌, ◌++◌, IfOk};
 ghost use Rattle.std.specs.Option.{option_map};
-ghost use Rattle.sb_directive.specs.Sources.{header_seen, source_seen};
+ghost use Rattle.sb_directive.specs.Sources.{beginning_seen, closed_seen, header_seen, source_seen};
 ghost use Rattle.sb_directive.specs.Headers as spec;
 ghost use Rattle.sb_directive.specs.Headers.Header.{Angle, Quote};
 
 use crate::lines::spelling;
-use sb_base::{Names, PpKind};
+use sb_base::{Names, Place, PpKind};
 use sb_lex::PpToken;
 use std::alloc::{AllocError, Global};
 
@@ -41,6 +41,24 @@ pub enum HeaderName {
     Quote(Vec<u8>),
 }
 
+/// How the pieces of a line begin.
+#[derive(Drop)]
+pub enum Beginning {
+    /// With this header, whose first piece stands there.
+    Names(HeaderName, Place),
+    /// As no header does, which is seen at the piece there.
+    Bad(Place),
+    /// As a header does, but they end before it does.
+    Ends,
+}
+
+/// The name of a header before its `>`, and where that stands.
+#[derive(Drop)]
+pub struct Closed {
+    pub text: Vec<u8>,
+    pub closing: Place,
+}
+
 /// Where the text of a header comes from: its name as a file, and its text if it is built in. The name of one that is
 /// built in stands between `<` and `>`.
 #[derive(Drop)]
@@ -59,33 +77,44 @@ fn inside(text: &[u8]) -> &[u8]
     }
 }
 
-fn angle_header(alloc: Global, name: &[u8]) -> Result<Option<HeaderName>, AllocError>
-    ensures header { IfOk result (λ found. option_map header_seen found ≡ spec.named Angle name.now) }
+/// A name between `<`, which stands at `at`, and `>`.
+fn angle_header(
+    alloc: Global,
+    name: &[u8],
+    at: Place,
+    closing: Place,
+) -> Result<Beginning, AllocError>
+    ensures beginning { IfOk result
+        (λ found. beginning_seen found ≡ spec.named Angle at closing name.now) }
 {
     if name.is_empty() {
-        return Ok(None);
+        return Ok(Beginning::Bad(closing));
     }
     let name = Vec::from_slice(alloc, name)?;
-    Ok(Some(HeaderName::Angle(name)))
+    Ok(Beginning::Names(HeaderName::Angle(name), at))
 }
 
-fn quote_header(alloc: Global, name: &[u8]) -> Result<Option<HeaderName>, AllocError>
-    ensures header { IfOk result (λ found. option_map header_seen found ≡ spec.named Quote name.now) }
+/// A name between quotes, in a piece at `at`.
+fn quote_header(alloc: Global, name: &[u8], at: Place) -> Result<Beginning, AllocError>
+    ensures beginning { IfOk result
+        (λ found. beginning_seen found ≡ spec.named Quote at at name.now) }
 {
     if name.is_empty() {
-        return Ok(None);
+        return Ok(Beginning::Bad(at));
     }
     let name = Vec::from_slice(alloc, name)?;
-    Ok(Some(HeaderName::Quote(name)))
+    Ok(Beginning::Names(HeaderName::Quote(name), at))
 }
 
-/// The header that a spelling with its delimiters names.
-fn header_spelled(alloc: Global, text: &[u8]) -> Result<Option<HeaderName>, AllocError>
-    ensures header { IfOk result (λ found. option_map header_seen found ≡ spec.header_spelled text.now) }
+/// The header that a spelling with its delimiters names, in a piece at `at`.
+fn header_spelled(alloc: Global, text: &[u8], at: Place) -> Result<Beginning, AllocError>
+    ensures beginning { IfOk result
+        (λ found. beginning_seen found ≡ spec.header_spelled at text.now) }
 {
     match text {
-        [b'<', ..] => angle_header(alloc, inside(text)),
-        _ => quote_header(alloc, inside(text)),
+        [] => Ok(Beginning::Bad(at)),
+        [b'<', ..] => angle_header(alloc, inside(text), at, at),
+        _ => quote_header(alloc, inside(text), at),
     }
 }
 
@@ -105,43 +134,48 @@ fn up_to_angle(
     alloc: Global,
     names: &Names,
     pieces: &[PpToken],
-) -> Result<Option<Vec<u8>>, AllocError>
-    ensures text { IfOk result (λ found. option_map (λ v. v.items) found ≡ spec.up_to_angle names.now.texts pieces.now) }
+) -> Result<Option<Closed>, AllocError>
+    ensures text { IfOk result
+        (λ found. option_map closed_seen found ≡ spec.up_to_angle names.now.texts pieces.now) }
 {
     let mut text = Vec::new(alloc);
     for piece in pieces {
         text.extend_from_slice(space_before(piece))?;
         let spelled = spelling(names, piece);
         if spelled == b">".as_slice() {
-            return Ok(Some(text));
+            return Ok(Some(Closed {
+                text,
+                closing: piece.place,
+            }));
         }
         text.extend_from_slice(spelled)?;
     }
     Ok(None)
 }
 
-/// The header that pieces name that stand behind `include`, once macros are replaced (C99 6.10.2): a header name, a string
-/// literal, or `<`, pieces and `>`, whose spellings are joined with one space where white space stood between. What stands
-/// behind it is passed over. None where they name none, or one without a byte between its delimiters.
-pub fn header_of(
+/// How pieces begin that stand behind `include`, once macros are replaced (C99 6.10.2): a header name, a string literal,
+/// or `<`, pieces and `>`, whose spellings are joined with one space where white space stood between, name a header, which
+/// has a byte between its delimiters. What stands behind it is passed over.
+pub(crate) fn beginning_of(
     alloc: Global,
     names: &Names,
     pieces: &[PpToken],
-) -> Result<Option<HeaderName>, AllocError>
-    ensures header { IfOk result (λ found. option_map header_seen found ≡ spec.header_of names.now.texts pieces.now) }
+) -> Result<Beginning, AllocError>
+    ensures beginning { IfOk result
+        (λ found. beginning_seen found ≡ spec.beginning names.now.texts pieces.now) }
 {
     let Some((first, behind)) = pieces.split_first() else {
-        return Ok(None);
+        return Ok(Beginning::Ends);
     };
     let text = spelling(names, first);
     match first.kind {
-        PpKind::Header => header_spelled(alloc, text),
-        PpKind::Text => quote_header(alloc, inside(text)),
+        PpKind::Header => header_spelled(alloc, text, first.place),
+        PpKind::Text => quote_header(alloc, inside(text), first.place),
         PpKind::Punct if text == b"<".as_slice() => match up_to_angle(alloc, names, behind)? {
-            Some(name) => angle_header(alloc, &name),
-            None => Ok(None),
+            Some(closed) => angle_header(alloc, &closed.text, first.place, closed.closing),
+            None => Ok(Beginning::Ends),
         },
-        _ => Ok(None),
+        _ => Ok(Beginning::Bad(first.place)),
     }
 }
 
@@ -184,7 +218,8 @@ fn file_of(alloc: Global, name: &[u8]) -> Result<Source, AllocError>
 /// Where the text of a header comes from: one between `<` and `>` is built in if its name is known, and each other header
 /// is a file of the library.
 pub fn source_of(alloc: Global, header: &HeaderName) -> Result<Source, AllocError>
-    ensures source { IfOk result (λ source. source_seen source ≡ spec.source_of (header_seen header.now)) }
+    ensures source { IfOk result
+        (λ source. source_seen source ≡ spec.source_of (header_seen header.now)) }
 {
     let name = match header {
         HeaderName::Quote(name) => return file_of(alloc, name),

@@ -10,12 +10,16 @@ mod headers;
 mod lines;
 mod refusal;
 mod rules;
+mod sections;
+mod seeking;
 
 pub use asks::{Asks, asks_of};
 pub use branches::{Branches, new_branch, next_group};
 pub use conditions::truth;
 pub use directive::{Branch, Directive};
-pub use headers::{HeaderName, Source, header_of, source_of};
+pub use headers::{HeaderName, Source, source_of};
 pub use lines::{begins_directive, behind_word, end_of, part_size, place_of, spelling};
 pub use refusal::stop_at;
 pub use rules::{MOST_TOKENS, Rules};
+pub use sections::laws;
+pub use seeking::{SoughtHeader, seek};

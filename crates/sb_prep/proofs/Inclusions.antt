@@ -17,8 +17,9 @@ use Rattle.sb_directive.specs.Headers.{source_of, file_name}
 use Rattle.sb_directive.specs.Sources.{header_seen, source_seen, source_by_text}
 use Rattle.sb_directive.specs.Stopping.{IsStop, IsAmong}
 use Rattle.sb_prep.specs.declared.including.Included.{Included}
-use Rattle.sb_prep.specs.declared.including.SoughtHeader.{SoughtHeader}
-use Rattle.sb_prep.specs.Reading.{IsHeader, IsOpen, IsShut, IsIncluded, IsBarred}
+use Rattle.sb_directive.specs.declared.seeking.SoughtHeader.{SoughtHeader}
+use Rattle.sb_directive.specs.Seeking.{IsHeader}
+use Rattle.sb_prep.specs.Reading.{IsOpen, IsShut, IsIncluded, IsBarred}
 use Rattle.sb_prep.specs.Standing.{Standing, moved_to}
 use Rattle.sb_prep.specs.Stopping.{IsFault, IsIn, AreIn, fault_of_stop}
 use Rattle.sb_prep.specs.Unit.{Progress, with_file, with_names, Unnamed, Seeks, IsContent, IsSought, IsNew, Passed, Barred, Opened, Includes, deepest}

@@ -9,7 +9,6 @@ pub mod OneConversion
 pub mod Parts
 pub mod Passages
 pub mod Requests
-pub mod Seeking
 pub mod Settled
 pub mod WholeUnit
 pub mod OneOutcome

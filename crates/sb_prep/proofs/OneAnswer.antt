@@ -11,7 +11,8 @@ use Rattle.sb_directive.specs.Asking.{asks, branches_after, branches_if}
 use Rattle.sb_directive.specs.Headers.{Source, BuiltIn, File, file_name, source_of}
 use Rattle.sb_directive.specs.Rules.{Table, undefined}
 use Rattle.sb_directive.proofs.DistinctTexts.{distinct_with}
-use Rattle.sb_prep.specs.Unit.{Progress, with_read, with_file, with_names, with_table, Sought, Named, Seeks, IsContent, IsSought, Inclusion, Barred, Includes, Carries, IsStuck, Part, After, Stops}
+use Rattle.sb_directive.proofs.SeekingOnce as seeking
+use Rattle.sb_prep.specs.Unit.{Progress, with_read, with_file, with_names, with_table, Sought, Seeks, IsContent, IsSought, Inclusion, Barred, Includes, Carries, IsStuck, Part, After, Stops}
 use Rattle.sb_prep.proofs.Determined.{AreDistinct, IsDistinctAfter, HaveOneAnswer, AreSettled}
 use Rattle.sb_prep.proofs.OneOutcome.{one_found}
 
@@ -34,31 +35,7 @@ content_one held (File name) found found' first second = one_found held name fou
 
 module _ (limit : ℕ) (settled : AreSettled limit) where
   one_sought : {texts : List (List ℕ)} {table : Table} {behind : List PpToken} {sought sought' : Sought} → Seeks texts table behind sought → Seeks texts table behind sought' → sought' ≡ sought
-  one_sought (Seeks.as_it_stands t ts header kind is) (Seeks.as_it_stands t' ts' header' kind' is') = ap (λ h. Named h t.place) (cc)
-  one_sought (Seeks.as_it_stands t ts header kind is) (Seeks.no_name t' ts' kind' is') = absurd (cc)
-  one_sought (Seeks.as_it_stands t ts header kind is) (Seeks.replaced t' ts' out' header' kind' expansion' is') = absurd (cc)
-  one_sought (Seeks.as_it_stands t ts header kind is) (Seeks.no_header t' ts' out' kind' expansion' is') = absurd (cc)
-  one_sought (Seeks.as_it_stands t ts header kind is) (Seeks.stopped t' ts' number' place' kind' halt') = absurd (cc)
-  one_sought (Seeks.no_name t ts kind is) (Seeks.as_it_stands t' ts' header' kind' is') = absurd (cc)
-  one_sought (Seeks.no_name t ts kind is) (Seeks.no_name t' ts' kind' is') = refl
-  one_sought (Seeks.no_name t ts kind is) (Seeks.replaced t' ts' out' header' kind' expansion' is') = absurd (cc)
-  one_sought (Seeks.no_name t ts kind is) (Seeks.no_header t' ts' out' kind' expansion' is') = absurd (cc)
-  one_sought (Seeks.no_name t ts kind is) (Seeks.stopped t' ts' number' place' kind' halt') = absurd (cc)
-  one_sought (Seeks.replaced t ts out header kind expansion is) (Seeks.as_it_stands t' ts' header' kind' is') = absurd (cc)
-  one_sought (Seeks.replaced t ts out header kind expansion is) (Seeks.no_name t' ts' kind' is') = absurd (cc)
-  one_sought (Seeks.replaced t ts out header kind expansion is) (Seeks.replaced t' ts' out' header' kind' expansion' is') = let outs = settled.expansion _ _ _ _ _ _ expansion expansion' in ap (λ h. Named h t.place) (cc (outs))
-  one_sought (Seeks.replaced t ts out header kind expansion is) (Seeks.no_header t' ts' out' kind' expansion' is') = let outs = settled.expansion _ _ _ _ _ _ expansion expansion' in absurd (cc (outs))
-  one_sought (Seeks.replaced t ts out header kind expansion is) (Seeks.stopped t' ts' number' place' kind' halt') = absurd (settled.no_stop _ _ _ _ _ _ _ expansion halt')
-  one_sought (Seeks.no_header t ts out kind expansion is) (Seeks.as_it_stands t' ts' header' kind' is') = absurd (cc)
-  one_sought (Seeks.no_header t ts out kind expansion is) (Seeks.no_name t' ts' kind' is') = absurd (cc)
-  one_sought (Seeks.no_header t ts out kind expansion is) (Seeks.replaced t' ts' out' header' kind' expansion' is') = let outs = settled.expansion _ _ _ _ _ _ expansion expansion' in absurd (cc (outs))
-  one_sought (Seeks.no_header t ts out kind expansion is) (Seeks.no_header t' ts' out' kind' expansion' is') = refl
-  one_sought (Seeks.no_header t ts out kind expansion is) (Seeks.stopped t' ts' number' place' kind' halt') = absurd (settled.no_stop _ _ _ _ _ _ _ expansion halt')
-  one_sought (Seeks.stopped t ts number place kind halt) (Seeks.as_it_stands t' ts' header' kind' is') = absurd (cc)
-  one_sought (Seeks.stopped t ts number place kind halt) (Seeks.no_name t' ts' kind' is') = absurd (cc)
-  one_sought (Seeks.stopped t ts number place kind halt) (Seeks.replaced t' ts' out' header' kind' expansion' is') = absurd (settled.no_stop _ _ _ _ _ _ _ expansion' halt)
-  one_sought (Seeks.stopped t ts number place kind halt) (Seeks.no_header t' ts' out' kind' expansion' is') = absurd (settled.no_stop _ _ _ _ _ _ _ expansion' halt)
-  one_sought (Seeks.stopped t ts number place kind halt) (Seeks.stopped t' ts' number' place' kind' halt') = let same = settled.stop _ _ _ _ _ _ _ _ halt halt' in cc (same.0, same.1)
+  one_sought first second = seeking.one_sought _ _ _ _ _ second first
 
   -- ---- directives that include no file
 

@@ -5,39 +5,21 @@ use Rattle.std.specs.declared.vec.Vec.{Vec}
 use Rattle.sb_base.specs.Found.{Found, Missing, TooBig, Whole as Present}
 use Rattle.sb_base.specs.declared.refusals.Place.{Place}
 use Rattle.sb_base.specs.declared.refusals.Stop.{Stop}
-use Rattle.sb_base.specs.declared.refusals.Stop.TheVariants as stop
 use Rattle.sb_base.specs.declared.tokens.Token.{Token}
 use Rattle.sb_lex.specs.declared.piece.PpToken.{PpToken}
 use Rattle.sb_lex.specs.Lexing.{PiecesOf, Whole, Stopped}
 use Rattle.sb_directive.specs.declared.asks.Asks.TheVariants as asked
 use Rattle.sb_directive.specs.declared.directive.Branch.{Branch}
-use Rattle.sb_directive.specs.declared.headers.HeaderName.{HeaderName}
 use Rattle.sb_directive.specs.Asking.{asks}
 use Rattle.sb_directive.specs.Ending.{Ending, Ended, Refused}
 use Rattle.sb_directive.specs.Lines.{end_of}
-use Rattle.sb_directive.specs.Rules.{Table}
-use Rattle.sb_directive.specs.Sources.{header_seen}
-use Rattle.sb_directive.specs.Stopping.{IsStop, IsAmong}
+use Rattle.sb_directive.specs.Stopping.{IsStop}
 use Rattle.sb_prep.specs.declared.including.Included.{Included}
-use Rattle.sb_prep.specs.declared.including.SoughtHeader.{SoughtHeader}
 use Rattle.sb_prep.specs.declared.fault.UnitFault.{UnitFault}
 use Rattle.sb_prep.specs.declared.units.ReadPart.{ReadPart}
 use Rattle.sb_prep.specs.Standing.{Standing}
 use Rattle.sb_prep.specs.Stopping.{IsFault, IsKept, IsIn, AreIn}
-use Rattle.sb_prep.specs.Unit.{Progress, Named, Unnamed, Seeks, Passed, Barred, Opened, Includes, deepest, Carries, IsStuck, GoesOn, Enters, Stops, HasPart, file_start, Leaves, IsUnit}
-
--- the pieces behind `include` name a header, at the place of one of them
-pub record IsHeader (texts : List (List ℕ)) (table : Table) (behind : List PpToken) (found : SoughtHeader) : Type 0 where
-  pub sought : Seeks texts table behind (Named (header_seen found.header) found.place)
-  pub among : IsAmong behind found.place
-
--- the header, if there is one, at this place
-abbrev pub IsFoundAt : Option HeaderName → Place → Result SoughtHeader Stop → Type 0
-IsFoundAt header place result = MatchResult result (λ found. (header ≡ Some found.header) × (found.place ≡ place)) (λ refusal. (header ≡ None) × (refusal ≡ stop.Refused (record { number = 24; place = place; feature = 0 })))
-
--- the pieces behind `include` name a header, or they are refused at one of them
-abbrev pub IsSeekResult : List (List ℕ) → Table → List PpToken → Result SoughtHeader Stop → Type 0
-IsSeekResult texts table behind result = MatchResult result (IsHeader texts table behind) (IsStop (λ number place. Seeks texts table behind (Unnamed number place) × IsAmong behind place))
+use Rattle.sb_prep.specs.Unit.{Progress, Passed, Barred, Opened, Includes, deepest, Carries, IsStuck, GoesOn, Enters, Stops, HasPart, file_start, Leaves, IsUnit}
 
 -- the pieces of an included file, of which each is of a file that has a number
 pub record IsOpened (depth : ℕ) (files : List (List ℕ)) (inner : Included) : Type 0 where

@@ -1,5 +1,5 @@
 -- the pieces that the directives of a file leave (C99 6.10), and where it is refused
-use Rattle.std.specs.Prelude.{◌≡◌, ℕ, suc, ◌+◌, ◌-◌, ◌<◌, ◌≤◌, ◌⊎◌, Bool, true, false, List, [], ◌∷◌, ◌++◌, length, Option, Some, None, slice_get, take, drop, nat_eq}
+use Rattle.std.specs.Prelude.{◌≡◌, ℕ, suc, ◌+◌, ◌-◌, ◌<◌, ◌≤◌, ◌⊎◌, Bool, true, false, List, [], ◌∷◌, ◌++◌, length, Option, Some, slice_get, take, drop, nat_eq}
 use Rattle.std.specs.List.{list_any}
 use Rattle.sb_base.specs.Names.{with_text}
 use Rattle.sb_base.specs.Found.{Found, Missing, TooBig, Whole as Present, IsFound}
@@ -14,10 +14,11 @@ use Rattle.sb_directive.specs.Ending.{Ending, Ended, Refused}
 use Rattle.sb_directive.specs.Lines.{begins_directive, end_of, part_size, place_of}
 use Rattle.sb_directive.specs.Branches.{is_read}
 use Rattle.sb_directive.specs.Asking.{asks, branches_after, branches_if}
-use Rattle.sb_directive.specs.Headers.{Header, is_header, header_of, Source, BuiltIn, File, source_of, file_name}
+use Rattle.sb_directive.specs.Headers.{Header, Source, BuiltIn, File, source_of, file_name}
 use Rattle.sb_directive.specs.Rules.{Table, IsExpansion, HasStopped, IsDefinition, IsNoDefinition, undefined, no_macros}
 use Rattle.sb_directive.specs.Conditions.{HasTruth, HasNoTruth}
 pub use Rattle.sb_directive.specs.Limits.{most_tokens}
+pub use Rattle.sb_directive.specs.Seeking.{Sought, Named, Unnamed, Seeks}
 use Rattle.sb_prep.specs.Tokens.{Converts}
 
 -- at most so many pieces are read in a unit, and files are included so deep
@@ -73,22 +74,6 @@ pub data IsStuck (limit : ℕ) (line : List PpToken) (bs : List Branch) (s : Pro
   refused : (number : ℕ) (place : Place) → asks s.texts s.table bs line ≡ asked.Refused number place → IsStuck limit line bs s number place
 
 -- ---- files that are included
-
--- what an `#include` asks for: a header, named at a place, or nothing, with a refusal
-pub data Sought : Type 0 where
-  Named : Header → Place → Sought
-  Unnamed : ℕ → Place → Sought
-
--- the header that the pieces behind `include` name: a header name as it stands, and other pieces once macros are replaced
-pub data Seeks (texts : List (List ℕ)) (table : Table) : List PpToken → Sought → Type 0 where
-  as_it_stands : (t : PpToken) (ts : List PpToken) (header : Header) → is_header t ≡ true → header_of texts (t ∷ ts) ≡ Some header → Seeks texts table (t ∷ ts) (Named header t.place)
-  no_name : (t : PpToken) (ts : List PpToken) → is_header t ≡ true → header_of texts (t ∷ ts) ≡ None → Seeks texts table (t ∷ ts) (Unnamed 24 t.place)
-  replaced : (t : PpToken) (ts out : List PpToken) (header : Header) → is_header t ≡ false → IsExpansion texts table most_tokens (t ∷ ts) out → header_of texts out ≡ Some header
-      → Seeks texts table (t ∷ ts) (Named header t.place)
-  no_header : (t : PpToken) (ts out : List PpToken) → is_header t ≡ false → IsExpansion texts table most_tokens (t ∷ ts) out → header_of texts out ≡ None
-      → Seeks texts table (t ∷ ts) (Unnamed 24 t.place)
-  stopped : (t : PpToken) (ts : List PpToken) (number : ℕ) (place : Place) → is_header t ≡ false → HasStopped texts table most_tokens (t ∷ ts) number place
-      → Seeks texts table (t ∷ ts) (Unnamed number place)
 
 -- what is found of a source: a header that is built in is there, and the library is asked for another
 abbrev pub IsContent : Option (List ℕ → Option (List ℕ)) → Source → Found → Type 0

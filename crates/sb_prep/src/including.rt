@@ -1,30 +1,23 @@
 //! Files that are included (C99 6.10.2).
 ghost use Rattle.std.specs.Prelude.{◌≡◌, ◌<◌, ◌≤◌, ◌+◌, ℕ, List, Some, None, MatchResult, IfOk, length};
 ghost use Rattle.sb_base.specs.Found.{seen, IsWithinLimit, HasReadCause};
-ghost use Rattle.sb_directive.specs.Headers.{BuiltIn, is_header};
+ghost use Rattle.sb_directive.specs.Headers.{BuiltIn};
 ghost use Rattle.sb_directive.specs.Sources.{source_seen};
-ghost use Rattle.sb_directive.specs.Stopping.{IsStop, IsAmong};
-ghost use Rattle.sb_prep.specs.Reading.{IsFoundAt, IsSeekResult, IsOpen, IsShut, IsIncluded, IsBarred};
+ghost use Rattle.sb_directive.specs.Stopping.{IsStop};
+ghost use Rattle.sb_prep.specs.Reading.{IsOpen, IsShut, IsIncluded, IsBarred};
 ghost use Rattle.sb_prep.specs.Standing.{moved_to};
 ghost use Rattle.sb_prep.specs.Stopping.{IsFault, IsKept, HasCause, AreIn};
 ghost use Rattle.sb_prep.specs.Unit.{IsContent, with_names};
 
 use crate::fault::UnitFault;
 use crate::state::State;
-use sb_base::{FetchFault, Found, Library, Place, PpKind, Stop, fetch_file};
-use sb_directive::{HeaderName, Source, source_of, stop_at};
+use sb_base::{FetchFault, Found, Library, Place, Stop, fetch_file};
+use sb_directive::{Source, source_of, stop_at};
 use sb_lex::PpToken;
 use std::alloc::Global;
 
 /// Files are included at most so deep.
 const DEEPEST: u32 = 64;
-
-/// A header that an `#include` names, and where.
-#[derive(Drop)]
-struct SoughtHeader {
-    header: HeaderName,
-    place: Place,
-}
 
 /// The number of an included file, and its pieces.
 #[derive(Drop)]
@@ -33,39 +26,12 @@ pub(crate) struct Included {
     pub(crate) pieces: Vec<PpToken>,
 }
 
-fn is_header(piece: &PpToken) -> bool
-    ensures header { result ≡ is_header piece.now }
-{
-    piece.kind == PpKind::Header
-}
-
-/// The header, if there is one; without one the `#include` is refused.
-fn header_at(header: Option<HeaderName>, place: Place) -> Result<SoughtHeader, Stop>
-    ensures found { IsFoundAt header place result }
-{
-    match header {
-        Some(header) => Ok(SoughtHeader { header, place }),
-        None => Err(stop_at(24, place)),
-    }
-}
-
-/// The header that the pieces behind `include` name: a header name as it stands, and other pieces once macros are replaced.
-fn seek(alloc: Global, state: &State, behind: &[PpToken]) -> Result<SoughtHeader, Stop>
-    requires some { 0 < length behind.now }
-    ensures sought { IsSeekResult state.now.at.texts state.now.at.table behind.now result }
-{
-    let first = behind[0];
-    if is_header(&first) {
-        return header_at(state.header(alloc, behind)?, first.place);
-    }
-    let replaced = state.expand(alloc, behind)?;
-    header_at(state.header(alloc, &replaced)?, first.place)
-}
-
 /// What a source has: a text that is built in, or a file of the library.
 fn content<L: Library>(alloc: Global, lib: &mut L, source: &Source) -> Result<Found, FetchFault>
-    requires short { (name text : List ℕ) → source_seen source.now ≡ BuiltIn name text → length text ≤ 4194304 }
-    ensures found { IfOk result (λ found. IsContent (L.held lib.old) (source_seen source.now) (seen found)) }
+    requires short { (name text : List ℕ) → source_seen source.now ≡ BuiltIn name text → length text
+        ≤ 4194304 }
+    ensures found { IfOk result
+        (λ found. IsContent (L.held lib.old) (source_seen source.now) (seen found)) }
     ensures within { IfOk result (λ found. IsWithinLimit found) }
     ensures held { L.held lib.new ≡ L.held lib.old }
     ensures cause { HasReadCause (L.faults lib.old) (L.faults lib.new) result }
@@ -86,7 +52,9 @@ fn included_file(
     place: Place,
 ) -> Result<Included, Stop>
     requires within { IsWithinLimit found.now }
-    ensures opened { MatchResult result (λ inner. IsOpen depth state.old file (seen found.now) state.new inner) (IsStop (IsShut depth state.old file (seen found.now) place state.new)) }
+    ensures opened { MatchResult result
+        (λ inner. IsOpen depth state.old file (seen found.now) state.new inner)
+        (IsStop (IsShut depth state.old file (seen found.now) place state.new)) }
     ensures moved { state.new ≡ moved_to state.old (with_names state.old.at state.new.at.texts) }
 {
     let bytes = match found {
@@ -113,13 +81,15 @@ pub(crate) fn include<L: Library>(
     requires some { 0 < length behind.now }
     requires room { length state.old.at.files ≤ 2147483648 + state.old.at.read }
     requires held { AreIn (length state.old.at.files) behind.now }
-    ensures included { MatchResult result (IsIncluded (L.held lib.old) depth behind.now state.old state.new) (IsFault (IsBarred (L.held lib.old) depth behind.now state.old state.new)) }
+    ensures included { MatchResult result
+        (IsIncluded (L.held lib.old) depth behind.now state.old state.new)
+        (IsFault (IsBarred (L.held lib.old) depth behind.now state.old state.new)) }
     ensures moved { state.new ≡ moved_to state.old state.new.at }
     ensures kept { IsKept state.old.at.files state.new.at.files }
     ensures held { L.held lib.new ≡ L.held lib.old }
     ensures cause { HasCause (L.faults lib.old) (L.faults lib.new) result }
 {
-    let sought = seek(alloc, state, behind)?;
+    let sought = state.seek(alloc, behind)?;
     let source = source_of(alloc, &sought.header)?;
     let file = state.number(alloc, &source.name)?;
     if state.is_once(file) {

@@ -1,17 +1,15 @@
 //! How far a unit has come: its macros, its tables and the pieces that were given.
 ghost use Rattle.std.specs.Prelude.{◌≡◌, ℕ, ◌+◌, ◌-◌, ◌^◌, ◌<◌, ◌≤◌, ◌⊎◌, List, [], ◌∷◌, ◌++◌, Some, MatchResult, IfOk, OnOk, OnErr, length, slice_get, nat_eq};
 ghost use Rattle.std.specs.List.{list_any};
-ghost use Rattle.std.specs.Option.{option_map};
 ghost use Rattle.sb_base.specs.Names.{NameTable, with_text};
 ghost use Rattle.sb_lex.specs.Faults.{IsNoPieces};
 ghost use Rattle.sb_lex.specs.Lexing.{PiecesOf, Whole};
 ghost use Rattle.sb_directive.specs.Asking.{asks};
 ghost use Rattle.sb_directive.specs.Conditions.{HasTruth, HasNoTruth};
 ghost use Rattle.sb_directive.specs.Ending.Ending.{Ended};
-ghost use Rattle.sb_directive.specs.Headers.{header_of};
 ghost use Rattle.sb_directive.specs.Lines.{begins_directive, part_size};
-ghost use Rattle.sb_directive.specs.Rules.{Table, IsExpansion, IsDefinition, IsNoDefinition, HasStopped, undefined};
-ghost use Rattle.sb_directive.specs.Sources.{header_seen};
+ghost use Rattle.sb_directive.specs.Rules.{Table, IsDefinition, IsNoDefinition, HasStopped, undefined};
+ghost use Rattle.sb_directive.specs.Seeking.{IsSeekResult};
 ghost use Rattle.sb_directive.specs.Stopping.{IsStop, IsAmong};
 ghost use Rattle.sb_directive.specs.Limits.{most_tokens};
 ghost use Rattle.sb_prep.specs.Standing.{Standing, moved_to, start, Gives};
@@ -22,8 +20,8 @@ ghost use Rattle.sb_prep.specs.Unit.{most_read, with_read, with_table, with_name
 use crate::tokens::tokens;
 use sb_base::{Files, Name, Names, Place, Stop, Token};
 use sb_directive::{
-    Asks, Branches, HeaderName, MOST_TOKENS, Rules, asks_of, begins_directive, header_of,
-    part_size, truth,
+    Asks, Branches, MOST_TOKENS, Rules, SoughtHeader, asks_of, begins_directive, part_size, seek,
+    truth,
 };
 use sb_lex::{PpToken, lex};
 use std::alloc::{AllocError, Global};
@@ -123,7 +121,9 @@ impl State {
     /// Expands a run of text and gives what it becomes.
     pub(crate) fn give(&mut self, alloc: Global, run: &[PpToken]) -> Result<(), Stop>
         requires held { AreIn (length self.old.at.files) run.now }
-        ensures given { MatchResult result (λ _. Gives self.old run.now self.new) (IsStop (λ number place. HasStopped self.old.at.texts self.old.at.table (most_tokens - self.old.at.given) run.now number place × IsAmong run.now place)) }
+        ensures given { MatchResult result (λ _. Gives self.old run.now self.new)
+            (IsStop (λ number place. HasStopped self.old.at.texts self.old.at.table
+            (most_tokens - self.old.at.given) run.now number place × IsAmong run.now place)) }
         ensures err { OnErr result (self.new ≡ self.old) }
     {
         let room = MOST_TOKENS - self.out.len() as u32;
@@ -134,37 +134,28 @@ impl State {
         }
     }
 
-    /// What macros make of the pieces of a line.
-    pub(crate) fn expand(&self, alloc: Global, pieces: &[PpToken]) -> Result<Vec<PpToken>, Stop>
-        ensures expansion { MatchResult result (λ out. IsExpansion self.now.at.texts self.now.at.table most_tokens pieces.now out.items) (IsStop (λ number place. HasStopped self.now.at.texts self.now.at.table most_tokens pieces.now number place × IsAmong pieces.now place)) }
+    /// The header that the pieces behind `include` name.
+    pub(crate) fn seek(&self, alloc: Global, behind: &[PpToken]) -> Result<SoughtHeader, Stop>
+        requires some { 0 < length behind.now }
+        ensures sought { IsSeekResult self.now.at.texts self.now.at.table behind.now result }
     {
-        self.rules.expand(alloc, &self.names, pieces, MOST_TOKENS)
-    }
-
-    /// The header that these pieces begin with.
-    pub(crate) fn header(
-        &self,
-        alloc: Global,
-        pieces: &[PpToken],
-    ) -> Result<Option<HeaderName>, Stop>
-        ensures header { MatchResult result (λ header. option_map header_seen header ≡ header_of self.now.at.texts pieces.now) (λ stop. stop ≡ Stop.Memory) }
-    {
-        match header_of(alloc, &self.names, pieces) {
-            Ok(header) => Ok(header),
-            Err(_) => Err(Stop::Memory),
-        }
+        seek(alloc, &self.names, &self.rules, behind)
     }
 
     /// Carries out `#define`, of which these pieces stand behind the word.
     pub(crate) fn define(&mut self, alloc: Global, behind: &[PpToken]) -> Result<(), Stop>
-        ensures defined { MatchResult result (λ _. IsDefinition self.old.at.texts self.old.at.table behind.now self.new.at.table) (IsStop (λ number place. IsNoDefinition self.old.at.texts self.old.at.table behind.now number place × (0 < length behind.now → IsAmong behind.now place))) }
+        ensures defined { MatchResult result
+            (λ _. IsDefinition self.old.at.texts self.old.at.table behind.now self.new.at.table)
+            (IsStop (λ number place. IsNoDefinition self.old.at.texts self.old.at.table behind.now
+            number place × (0 < length behind.now → IsAmong behind.now place))) }
         ensures moved { self.new ≡ moved_to self.old (with_table self.old.at self.new.at.table) }
     {
         self.rules.define(alloc, &self.names, behind)
     }
 
     pub(crate) fn undefine(&mut self, name: Name)
-        ensures undefined { self.new ≡ moved_to self.old (with_table self.old.at (undefined self.old.at.table name)) }
+        ensures undefined { self.new ≡ moved_to self.old
+            (with_table self.old.at (undefined self.old.at.table name)) }
     {
         self.rules.undef(name);
     }
@@ -176,7 +167,11 @@ impl State {
         at: Place,
         behind: &[PpToken],
     ) -> Result<bool, Stop>
-        ensures truth { MatchResult result (λ holds. HasTruth self.old.limit self.old.at.texts self.old.at.table at behind.now holds self.new.at.texts) (IsStop (λ number place. HasNoTruth self.old.limit self.old.at.texts self.old.at.table at behind.now number place × ((place ≡ at) ⊎ IsAmong behind.now place))) }
+        ensures truth { MatchResult result
+            (λ holds. HasTruth self.old.limit self.old.at.texts self.old.at.table at behind.now
+            holds self.new.at.texts)
+            (IsStop (λ number place. HasNoTruth self.old.limit self.old.at.texts self.old.at.table
+            at behind.now number place × ((place ≡ at) ⊎ IsAmong behind.now place))) }
         ensures moved { self.new ≡ moved_to self.old (with_names self.old.at self.new.at.texts) }
     {
         truth(alloc, &mut self.names, &self.rules, at, behind)
@@ -184,7 +179,9 @@ impl State {
 
     /// The file is included once.
     pub(crate) fn add_once(&mut self, file: u32) -> Result<(), Stop>
-        ensures added { MatchResult result (λ _. self.new ≡ moved_to self.old (with_once self.old.at file)) (λ stop. (stop ≡ Stop.Memory) × (self.new ≡ self.old)) }
+        ensures added { MatchResult result
+            (λ _. self.new ≡ moved_to self.old (with_once self.old.at file))
+            (λ stop. (stop ≡ Stop.Memory) × (self.new ≡ self.old)) }
     {
         match self.once.push(file) {
             Ok(()) => Ok(()),
@@ -202,7 +199,8 @@ impl State {
     pub(crate) fn number(&mut self, alloc: Global, name: &[u8]) -> Result<u32, AllocError>
         requires room { length self.old.at.files ≤ 2147483648 + self.old.at.read }
         ensures number { IfOk result (λ file. slice_get self.new.at.files file ≡ Some name.now) }
-        ensures moved { OnOk result (self.new ≡ moved_to self.old (with_file self.old.at name.now)) }
+        ensures moved { OnOk result
+            (self.new ≡ moved_to self.old (with_file self.old.at name.now)) }
         ensures err { OnErr result (self.new ≡ self.old) }
     {
         self.files.number(alloc, name)
@@ -216,7 +214,10 @@ impl State {
         file: u32,
     ) -> Result<Vec<PpToken>, Stop>
         requires short { length bytes.now ≤ 4194304 }
-        ensures pieces { MatchResult result (λ out. PiecesOf file self.old.limit self.old.at.texts bytes.now out.items self.new.at.texts Whole) (IsNoPieces file self.old.limit self.old.at.texts bytes.now self.new.at.texts) }
+        ensures pieces { MatchResult result
+            (λ out. PiecesOf file self.old.limit self.old.at.texts bytes.now out.items
+            self.new.at.texts Whole)
+            (IsNoPieces file self.old.limit self.old.at.texts bytes.now self.new.at.texts) }
         ensures moved { self.new ≡ moved_to self.old (with_names self.old.at self.new.at.texts) }
     {
         lex(alloc, &mut self.names, bytes, file)
@@ -224,7 +225,10 @@ impl State {
 
     /// The tokens that the pieces become that were given.
     pub(crate) fn tokens(&mut self, alloc: Global) -> Result<Vec<Token>, Stop>
-        ensures tokens { MatchResult result (λ tokens. Converts self.old.limit self.old.at.texts self.old.out tokens.items self.new.at.texts Ended) (IsNoTokens self.old.limit self.old.at.texts self.old.out self.new.at.texts) }
+        ensures tokens { MatchResult result
+            (λ tokens. Converts self.old.limit self.old.at.texts self.old.out tokens.items
+            self.new.at.texts Ended)
+            (IsNoTokens self.old.limit self.old.at.texts self.old.out self.new.at.texts) }
         ensures moved { self.new ≡ moved_to self.old (with_names self.old.at self.new.at.texts) }
         ensures held { AreIn (length self.old.at.files) self.old.out }
         ensures given { length self.old.out ≤ most_tokens }

@@ -39,7 +39,9 @@ fn literal_count(pieces: &[PpToken]) -> usize
 
 /// The bytes that string literals name, one behind the other (C99 6.4.5), or the refusal of the first that names none.
 fn joined_bytes(alloc: Global, names: &Names, literals: &[PpToken]) -> Result<Vec<u8>, Stop>
-    ensures joined { MatchResult result (λ bytes. spec.NameBytes names.now.texts literals.now bytes.items) (IsBadLiteral names.now.texts literals.now) }
+    ensures joined { MatchResult result
+        (λ bytes. spec.NameBytes names.now.texts literals.now bytes.items)
+        (IsBadLiteral names.now.texts literals.now) }
 {
     let mut bytes = Vec::new(alloc);
     for literal in literals {
@@ -66,7 +68,9 @@ fn literal_token<'a>(
 ) -> Result<(Token, &'a [PpToken]), Stop>
     requires first { slice_get pieces.now 0 ≡ Some first.now }
     requires literal { spec.is_text_kind first.now.kind ≡ true }
-    ensures token { MatchResult result (λ first. Begins names.old.limit names.old.texts pieces.now names.new.texts first.0 first.1.now) (spec.IsNoTokens names.old.limit names.old.texts pieces.now names.new.texts) }
+    ensures token { MatchResult result
+        (λ first. Begins names.old.limit names.old.texts pieces.now names.new.texts first.0
+        first.1.now) (spec.IsNoTokens names.old.limit names.old.texts pieces.now names.new.texts) }
     ensures limit { names.new.limit ≡ names.old.limit }
     ensures distinct { IsDistinct names.old.texts → IsDistinct names.new.texts }
 {
@@ -93,8 +97,11 @@ fn first_token<'a>(
     names: &mut Names,
     pieces: &'a [PpToken],
 ) -> Result<Option<(Token, &'a [PpToken])>, Stop>
-    ensures token { IfOk result (λ first. MatchOption first ((pieces.now ≡ []) × (names.new.texts ≡ names.old.texts)) (λ f. Begins names.old.limit names.old.texts pieces.now names.new.texts f.0 f.1.now)) }
-    ensures refused { IfErr result (spec.IsNoTokens names.old.limit names.old.texts pieces.now names.new.texts) }
+    ensures token { IfOk result
+        (λ first. MatchOption first ((pieces.now ≡ []) × (names.new.texts ≡ names.old.texts))
+        (λ f. Begins names.old.limit names.old.texts pieces.now names.new.texts f.0 f.1.now)) }
+    ensures refused { IfErr result
+        (spec.IsNoTokens names.old.limit names.old.texts pieces.now names.new.texts) }
     ensures limit { names.new.limit ≡ names.old.limit }
     ensures distinct { IsDistinct names.old.texts → IsDistinct names.new.texts }
 {
@@ -133,10 +140,14 @@ pub(crate) fn tokens(
     names: &mut Names,
     pieces: &[PpToken],
 ) -> Result<Vec<Token>, Stop>
-    ensures tokens { MatchResult result (λ tokens. spec.Converts names.old.limit names.old.texts pieces.now tokens.items names.new.texts Ended) (spec.IsNoTokens names.old.limit names.old.texts pieces.now names.new.texts) }
+    ensures tokens { MatchResult result
+        (λ tokens. spec.Converts names.old.limit names.old.texts pieces.now tokens.items
+        names.new.texts Ended)
+        (spec.IsNoTokens names.old.limit names.old.texts pieces.now names.new.texts) }
     ensures limit { names.new.limit ≡ names.old.limit }
     ensures distinct { IsDistinct names.old.texts → IsDistinct names.new.texts }
-    ensures only { IsDistinct names.old.texts → spec.HasOneConversion names.old.limit names.old.texts pieces.now }
+    ensures only { IsDistinct names.old.texts
+        → spec.HasOneConversion names.old.limit names.old.texts pieces.now }
 {
     let mut tokens = Vec::new(alloc);
     let mut rest = pieces;

@@ -46,7 +46,8 @@ fn carry_out(
     asks: Asks,
     line: &[PpToken],
 ) -> Result<(), Stop>
-    requires asked { asks ≡ asking.asks state.old.at.texts state.old.at.table branches.old line.now }
+    requires asked { asks ≡ asking.asks state.old.at.texts state.old.at.table branches.old
+        line.now }
     requires other { asks ≡ Asks.Includes → ⊥ }
     requires some { 0 < length line.now }
     requires held { AreIn (length state.old.at.files) line.now }
@@ -92,7 +93,11 @@ fn directive<L: Library>(
     requires room { length state.old.at.files ≤ 2147483648 + state.old.at.read }
     requires some { 0 < length line.now }
     requires held { AreIn (length state.old.at.files) line.now }
-    ensures directive { MatchResult result (IsDirective (L.held lib.old) here.depth here.file line.now branches.old state.old branches.new state.new) (IsFault (IsNoDirective (L.held lib.old) here.depth line.now branches.old state.old state.new)) }
+    ensures directive { MatchResult result
+        (IsDirective (L.held lib.old) here.depth here.file line.now branches.old state.old
+        branches.new state.new)
+        (IsFault (IsNoDirective (L.held lib.old) here.depth line.now branches.old state.old
+        state.new)) }
     ensures moved { state.new ≡ moved_to state.old state.new.at }
     ensures kept { IsKept state.old.at.files state.new.at.files }
     ensures held { L.held lib.new ≡ L.held lib.old }
@@ -120,7 +125,8 @@ fn text(
     requires room { state.old.at.read + size ≤ most_read }
     requires within { size ≤ length pieces.now }
     requires held { AreIn (length state.old.at.files) pieces.now }
-    ensures read { (held : Option (List ℕ → Option (List ℕ))) (depth file : ℕ) → IsTextRead held depth file branches.now state.old pieces.now size state.new result }
+    ensures read { (held : Option (List ℕ → Option (List ℕ))) (depth file : ℕ)
+        → IsTextRead held depth file branches.now state.old pieces.now size state.new result }
     ensures files { state.new.at.files ≡ state.old.at.files }
     ensures limit { state.new.limit ≡ state.old.limit }
 {
@@ -144,7 +150,9 @@ fn overflow(
     requires unread { unread ≡ most_read - state.old.at.read }
     requires within { unread < length pieces.now }
     requires held { AreIn (length state.old.at.files) pieces.now }
-    ensures refused { (held : Option (List ℕ → Option (List ℕ))) (depth file size : ℕ) → IsFront state.old.at pieces.now size → most_read < state.old.at.read + size → IsStop (IsLate held depth file branches.now state.old pieces.now size state.new) result }
+    ensures refused { (held : Option (List ℕ → Option (List ℕ))) (depth file size : ℕ)
+        → IsFront state.old.at pieces.now size → most_read < state.old.at.read + size
+        → IsStop (IsLate held depth file branches.now state.old pieces.now size state.new) result }
     ensures files { state.new.at.files ≡ state.old.at.files }
     ensures limit { state.new.limit ≡ state.old.limit }
 {
@@ -169,7 +177,8 @@ fn read_part<L: Library>(
 ) -> Result<ReadPart, UnitFault>
     requires some { 0 < length pieces.now }
     requires held { AreIn (length state.old.at.files) pieces.now }
-    ensures part { IsPartRead (L.held lib.old) here.depth here.file branches.old state.old pieces.now branches.new state.new result }
+    ensures part { IsPartRead (L.held lib.old) here.depth here.file branches.old state.old
+        pieces.now branches.new state.new result }
     ensures within { IfOk result (λ part. part.size ≤ length pieces.now) }
     ensures limit { state.new.limit ≡ state.old.limit }
     ensures kept { IsKept state.old.at.files state.new.at.files }
@@ -192,7 +201,8 @@ fn read_part<L: Library>(
 
 /// Refuses a file that ends inside an `#if`, at its last piece.
 fn ensure_closed(branches: &Branches, file: u32, pieces: &[PpToken]) -> Result<(), Stop>
-    ensures closed { MatchResult result (λ _. branches.now ≡ []) (IsStop (IsUnclosed branches.now (end_of (file_start file) pieces.now))) }
+    ensures closed { MatchResult result (λ _. branches.now ≡ [])
+        (IsStop (IsUnclosed branches.now (end_of (file_start file) pieces.now))) }
 {
     match branches.innermost() {
         Some(_) => {
@@ -217,7 +227,8 @@ fn read_file<L: Library>(
 ) -> Result<(), UnitFault>
     requires numbered { here.file < length state.old.at.files }
     requires held { AreIn (length state.old.at.files) pieces.now }
-    ensures read { IsFile (L.held lib.old) here.depth here.file pieces.now state.old state.new result }
+    ensures read { IsFile (L.held lib.old) here.depth here.file pieces.now state.old state.new
+        result }
     ensures limit { state.new.limit ≡ state.old.limit }
     ensures kept { IsKept state.old.at.files state.new.at.files }
     ensures held { L.held lib.new ≡ L.held lib.old }
@@ -251,7 +262,9 @@ fn pieces_of(
     found: &Found,
 ) -> Result<Vec<PpToken>, Stop>
     requires within { IsWithinLimit found.now }
-    ensures pieces { MatchResult result (λ pieces. HasPieces state.old file (seen found.now) state.new pieces.items) (IsStop (HasNoPieces state.old file (seen found.now) state.new)) }
+    ensures pieces { MatchResult result
+        (λ pieces. HasPieces state.old file (seen found.now) state.new pieces.items)
+        (IsStop (HasNoPieces state.old file (seen found.now) state.new)) }
     ensures moved { state.new ≡ moved_to state.old (with_names state.old.at state.new.at.texts) }
 {
     let start = Place {
@@ -275,7 +288,8 @@ fn tokens_of<L: Library>(
 ) -> Result<Vec<Token>, UnitFault>
     requires start { state.old ≡ start state.old.limit state.old.at.texts state.old.at.files }
     requires room { length state.old.at.files ≤ 2 ^ 31 }
-    ensures tokens { IsUnitOf (L.held lib.old) state.old.limit name.now state.old.at.texts state.old.at.files state.new.at.texts state.new.at.files result }
+    ensures tokens { IsUnitOf (L.held lib.old) state.old.limit name.now state.old.at.texts
+        state.old.at.files state.new.at.texts state.new.at.files result }
     ensures places { IfOk result (λ tokens. AreTokensIn (length state.new.at.files) tokens.items) }
     ensures most { IfOk result (λ tokens. length tokens.items ≤ most_tokens) }
     ensures limit { state.new.limit ≡ state.old.limit }
@@ -310,8 +324,11 @@ pub fn unit<L: Library>(
     name: &[u8],
 ) -> Result<Vec<Token>, UnitFault>
     requires room { length files.old ≤ 2 ^ 31 }
-    ensures unit { IsUnitOf (L.held lib.old) names.old.limit name.now names.old.texts files.old names.new.texts files.new result }
-    ensures only { IsDistinct names.old.texts → IsDistinct files.old → (told : List ℕ → Option (List ℕ)) → L.held lib.old ≡ Some told → IsOnlyOutcome told names.old.limit name.now names.old.texts files.old result }
+    ensures unit { IsUnitOf (L.held lib.old) names.old.limit name.now names.old.texts files.old
+        names.new.texts files.new result }
+    ensures only { IsDistinct names.old.texts → IsDistinct files.old
+        → (told : List ℕ → Option (List ℕ)) → L.held lib.old ≡ Some told
+        → IsOnlyOutcome told names.old.limit name.now names.old.texts files.old result }
     ensures places { IfOk result (λ tokens. AreTokensIn (length files.new) tokens.items) }
     ensures most { IfOk result (λ tokens. length tokens.items ≤ most_tokens) }
     ensures limit { names.new.limit ≡ names.old.limit }
