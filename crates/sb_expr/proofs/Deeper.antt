@@ -4,17 +4,20 @@ use Rattle.sb_base.specs.declared.tokens.Token.{Token}
 use Rattle.sb_parse.specs.Parser.{done, and_then, ◌>>=◌, pure, token, looped}
 use Rattle.sb_expr.specs.declared.expressions.Level as entries
 use Rattle.sb_expr.specs.declared.expressions.Level.TheVariants as entry
-use Rattle.sb_expr.specs.declared.pieces.Piece.{Piece}
+use Rattle.sb_operand.specs.declared.pieces.Piece.{Piece}
 use Rattle.sb_parse.specs.Descent.{descent}
 use Rattle.sb_expr.specs.Expression.{Level, Assignment}
 use Rattle.sb_lexicon.specs.Lexicon.{Lexicon}
-use Rattle.sb_expr.specs.Meaning.{nested, declared, piecewise, plain_pieces, plain_level}
-use Rattle.sb_expr.specs.Parts.{no_expr, qualifier, sized}
-use Rattle.sb_expr.specs.Pieces.{Pointed, Arrayed, constant_if}
+use Rattle.sb_operand.specs.Meaning.{plain_pieces}
+use Rattle.sb_expr.specs.Meaning.{nested, declared, piecewise, plain_level}
+use Rattle.sb_operand.specs.Readers.{qualifier}
+use Rattle.sb_expr.specs.Parts.{no_expr, sized}
+use Rattle.sb_operand.specs.Pieces.{Pointed, Arrayed, constant_if}
 use Rattle.sb_expr.specs.Readers as spec
-use Rattle.sb_expr.specs.Readers.{Parts, expr_reader, type_reader, no_type, at_level, type_named, abstract_declarator, no_declarator, size_at, infix_at, cast_expr, operated, arrayed, pointed, one_if}
+use Rattle.sb_operand.specs.Readers.{no_declarator, one_if}
+use Rattle.sb_expr.specs.Readers.{Parts, expr_reader, type_reader, no_type, at_level, type_named, abstract_declarator, size_at, infix_at, cast_expr, operated, arrayed, pointed}
 use Rattle.sb_lexicon.specs.Tokens.{is_operator, unexpected, is_open_bracket, is_close_bracket, is_star, is_qualifier}
-use Rattle.sb_expr.proofs.Lists.{count_of_pieces}
+use Rattle.sb_operand.proofs.Lists.{count_of_pieces}
 
 -- k levels down at once
 lower_by : {P : Type 0} (bottom : P) (step : ℕ → (ℕ → P) → P) (n k : ℕ) → descent bottom step n k ≡ descent bottom step (n - k) 0

@@ -14,11 +14,11 @@ use Rattle.sb_lexicon.specs.declared.reading.ReadFault.{ReadFault}
 use Rattle.sb_lexicon.specs.declared.reading.ReadFault.TheVariants.{Refused, Memory}
 use Rattle.sb_expr.specs.Calls.{MakesType}
 use Rattle.sb_lexicon.specs.Outcomes.{IsStopBy, IsOutcome}
-use Rattle.sb_expr.specs.declared.pieces.Piece.{Piece}
-use Rattle.sb_expr.specs.Pieces.{Declared, typed, type_of}
+use Rattle.sb_operand.specs.declared.pieces.Piece.{Piece}
+use Rattle.sb_operand.specs.Pieces.{Declared, typed, type_of}
 use Rattle.sb_tree.specs.declared.syntax.TypeName.{TypeName}
 use Rattle.sb_tree.specs.Plain.{plain_type}
-use Rattle.sb_expr.specs.Meaning.{plain_pieces}
+use Rattle.sb_operand.specs.Meaning.{plain_pieces}
 use Rattle.sb_lexicon.specs.Meaning.{IsFault, stop_number}
 use Rattle.sb_expr.proofs.Leaving.{Ends, Leaves}
 

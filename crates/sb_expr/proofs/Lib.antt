@@ -3,9 +3,6 @@ pub mod laws
 pub mod telling
 pub mod widening
 pub mod Tying
-pub mod Putting
-pub mod Lists
-pub mod PieceDepths
 pub mod Deeper
 pub mod Leaving
 pub mod Entering

@@ -12,7 +12,7 @@ use Rattle.sb_tree.specs.declared.syntax.TypeName.{TypeName}
 use Rattle.sb_tree.specs.Plain.{plain_expr, plain_type}
 use Rattle.sb_tree.specs.Trees.{ExprTree, depth_of_expr, depth_of_type}
 use Rattle.sb_lexicon.specs.Lexicon.{Lexicon}
-use Rattle.sb_expr.specs.Pieces.{Declared, type_of}
+use Rattle.sb_operand.specs.Pieces.{Declared, type_of}
 use Rattle.sb_expr.specs.Expression.{Level, Sequence, IsExpr, IsType}
 use Rattle.sb_expr.specs.Readers.{begins_at, no_type, whole_parts, no_parts, parts, expr_reader, type_reader}
 use Rattle.sb_lexicon.specs.Tokens.{too_deep, unexpected, floating, union, volatile, complex}

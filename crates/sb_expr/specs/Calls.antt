@@ -7,9 +7,9 @@ use Rattle.sb_base.specs.declared.refusals.Stop.{Stop}
 use Rattle.sb_base.specs.declared.refusals.Stop.TheVariants as stop
 use Rattle.sb_tree.specs.declared.syntax.TypeName.{TypeName}
 use Rattle.sb_tree.specs.Plain.{plain_type}
-use Rattle.sb_expr.specs.declared.pieces.Piece.{Piece}
-use Rattle.sb_expr.specs.Meaning.{plain_pieces}
-use Rattle.sb_expr.specs.Pieces.{typed}
+use Rattle.sb_operand.specs.declared.pieces.Piece.{Piece}
+use Rattle.sb_operand.specs.Meaning.{plain_pieces}
+use Rattle.sb_operand.specs.Pieces.{typed}
 
 -- memory may be wanting
 abbrev pub MakesType : Box TypeName Global → Vec Piece Global → Result TypeName Stop → Type 0

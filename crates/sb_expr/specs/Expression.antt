@@ -15,7 +15,7 @@ use Rattle.sb_lexicon.specs.declared.operators.Suffix.TheVariants as suffix
 use Rattle.sb_lexicon.specs.Lexicon.{Lexicon, is_mark, is_keyword, name_of, operand_of, operator_of, prefix_of, step_of, assignment_of, suffix_of}
 use Rattle.sb_lexicon.specs.Specifiers.{AreSpecifiers}
 use Rattle.sb_lexicon.specs.Words.{Specifiers, unspecified, type_specified}
-use Rattle.sb_expr.specs.Pieces.{Piece, Pointed, Arrayed, Grouped, constant_if, Declared, type_of}
+use Rattle.sb_operand.specs.Pieces.{Piece, Pointed, Arrayed, Grouped, constant_if, Declared, type_of}
 
 pub data Level : Type 0 where
   Primary : Level

@@ -1,4 +1,3 @@
-pub mod Pieces
 pub mod Expression
 pub mod Readers
 pub mod Meaning

@@ -1,22 +1,16 @@
 -- The parts of the longer readers that are functions of their own in code.
-use Rattle.std.specs.Prelude.{ℕ, Bool, true, []}
+use Rattle.std.specs.Prelude.{ℕ, Bool, []}
 use Rattle.sb_base.specs.declared.refusals.Place.{Place}
 use Rattle.sb_base.specs.declared.tokens.Token.{Token}
 use Rattle.sb_parse.specs.Parser.{Parser, ◌>>=◌, pure, refuse, token, taken, choose, guard}
-use Rattle.sb_sign.specs.declared.sign.Keyword.TheVariants as keyword
 use Rattle.sb_tree.specs.Trees as tree
 use Rattle.sb_tree.specs.Trees.{ExprTree, OptionalExpr}
-use Rattle.sb_lexicon.specs.Lexicon.{Lexicon, is_keyword}
-use Rattle.sb_expr.specs.Readers.{ExprReader, PieceReader, in_parentheses}
-use Rattle.sb_lexicon.specs.Tokens.{unexpected, too_deep, volatile, is_open, is_close_bracket, is_zero, member_of, begins_expr}
+use Rattle.sb_lexicon.specs.Lexicon.{Lexicon}
+use Rattle.sb_operand.specs.Readers.{PieceReader}
+use Rattle.sb_expr.specs.Readers.{ExprReader, in_parentheses}
+use Rattle.sb_lexicon.specs.Tokens.{unexpected, too_deep, is_open, is_close_bracket, is_zero, member_of, begins_expr}
 
 -- ---- declarators
-
-abbrev pub qualifier : Lexicon → ℕ → Bool → Parser Token Bool
-qualifier w room c =
-    choose (is_keyword w keyword.Const) (guard (is_zero room) too_deep (token unexpected (is_keyword w keyword.Const) >>= (λ t. pure true)))
-    (choose (is_keyword w keyword.Restrict) (token unexpected (is_keyword w keyword.Restrict) >>= (λ t. pure c))
-    (refuse volatile))
 
 abbrev pub sized : Lexicon → ExprReader → Parser Token OptionalExpr
 sized w size = choose (is_close_bracket w) (pure tree.NoExpr) (size >>= (λ e. pure (tree.AnExpr e)))

@@ -13,7 +13,8 @@ use Rattle.sb_lexicon.specs.declared.operators.Suffix.TheVariants as suffix
 use Rattle.sb_parse.specs.Descent.{descent, choose_second}
 use Rattle.sb_expr.specs.Expression.{Level, Primary, Postfix, Prefix, Infix, Conditional, Assignment, Sequence}
 use Rattle.sb_lexicon.specs.Lexicon.{Lexicon, is_keyword, begins_type, operand_of, operator_of, prefix_of, step_of, assignment_of, suffix_of}
-use Rattle.sb_expr.specs.Pieces.{Piece, Pointed, Arrayed, Grouped, constant_if, points, Declared, type_of}
+use Rattle.sb_operand.specs.Pieces.{Piece, Pointed, Arrayed, Grouped, constant_if, Declared, type_of}
+use Rattle.sb_operand.specs.Readers.{PieceReader, begins_abstract, begins_parameters, calls, one_if, no_declarator}
 use Rattle.sb_lexicon.specs.Words.{Nothing}
 use Rattle.sb_lexicon.specs.SpecifierReaders.{is_floating, is_complex, is_union, base_type}
 use Rattle.sb_lexicon.specs.Tokens.{unexpected, too_deep, floating, union, function_pointer, volatile, complex, compound_literal, is_zero, is_open, is_close, is_open_bracket, is_close_bracket, is_comma, is_question, is_colon, is_star, is_open_brace, is_size_of, is_prefix, is_step, is_suffix, is_operator, begins_expr, member_of, is_qualifier}
@@ -31,23 +32,6 @@ abbrev pub assigns : Lexicon → ExprTree → Token → Bool
 assigns w e t = is_unary e && is_some (assignment_of w t)
 
 -- ---- declarators without a name
-
-abbrev pub PieceReader : Type 0
-PieceReader = Parser Token (List Piece)
-
-abbrev pub begins_abstract : Lexicon → Token → Bool
-begins_abstract w t = is_star w t || (is_open w t || is_open_bracket w t)
-
--- with this token only a function type goes on behind a parenthesis that has no declarator
-abbrev pub begins_parameters : Lexicon → Token → Bool
-begins_parameters w t = is_close w t || (begins_type w t || is_keyword w keyword.Register t)
-
--- behind these pieces an opening parenthesis makes a pointer to a function
-abbrev pub calls : Lexicon → List Piece → Token → Bool
-calls w ps t = points ps && is_open w t
-
-abbrev pub one_if : Bool → ℕ
-one_if b = if b then 1 else 0
 
 -- `size n`: the reader of the size of an array below n pieces; `below`: how many pieces may stand above one; `rest k`: the reader of a declarator with room for `below - k` pieces
 module _ (w : Lexicon) (size : ℕ → Parser Token ExprTree) (below : ℕ) (rest : ℕ → PieceReader) where
@@ -83,10 +67,6 @@ module _ (w : Lexicon) (size : ℕ → Parser Token ExprTree) (below : ℕ) (res
 
   unfoldable pub abstract_declarator : PieceReader
   abstract_declarator = choose (is_star w) pointed direct
-
--- without room for a piece
-abbrev pub no_declarator : Lexicon → PieceReader
-no_declarator w = choose (begins_abstract w) (refuse too_deep) (pure [])
 
 -- declarators with room for `room - k` pieces
 abbrev pub declarators : Lexicon → (ℕ → Parser Token ExprTree) → (room k : ℕ) → PieceReader

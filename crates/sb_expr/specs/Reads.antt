@@ -9,7 +9,7 @@ use Rattle.sb_tree.specs.Trees.{ExprTree, depth_of_expr, depth_of_type}
 use Rattle.sb_expr.specs.Expression.{Level, Sequence, IsExpr, IsType}
 use Rattle.sb_lexicon.specs.Lexicon.{Lexicon}
 use Rattle.sb_lexicon.specs.Outcomes.{IsOutcome}
-use Rattle.sb_expr.specs.Pieces.{Declared, type_of}
+use Rattle.sb_operand.specs.Pieces.{Declared, type_of}
 use Rattle.sb_expr.specs.Readers.{expr_reader, type_reader}
 
 -- an expression whose tree is at most so deep

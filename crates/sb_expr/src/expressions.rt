@@ -1,22 +1,21 @@
 //! Expressions, from casts with operators between them up to commas (C99 6.5.5 to 6.5.17).
 ghost use Rattle.std.specs.Prelude.{◌≡◌, suc, ◌≤◌, ◌<◌, ◌+◌, IfOk};
 ghost use Rattle.sb_parse.specs.Parser.{looped};
-ghost use Rattle.sb_expr.specs.Meaning.{nested, plain_found, plain_level, rank_of, IsKnown, Reads};
+ghost use Rattle.sb_operand.specs.Meaning.{plain_found, IsKnown, Reads};
+ghost use Rattle.sb_expr.specs.Meaning.{nested, plain_level, rank_of};
 ghost use Rattle.sb_lexicon.specs.Meaning.{meant, IsFault};
 ghost use Rattle.sb_expr.specs.Parts.{no_expr};
 ghost use Rattle.sb_expr.specs.Readers as spec;
 ghost use Rattle.sb_lexicon.specs.Tokens as lexeme;
 ghost use Rattle.sb_tree.specs.Plain.{plain_expr};
 
-use crate::found::Found;
-use crate::operands::is_expr_next;
 use crate::prefix::{cast_expr, prefix_expr};
-use crate::trees::{assign, binary, cond};
 use sb_base::Token;
 use sb_lexicon::{
     Lexicon, ReadFault, is_assignment_next, is_mark_next, is_operator_next, take_assignment,
     take_mark, take_operator,
 };
+use sb_operand::{Found, assign, binary, cond, is_expr_next};
 use sb_sign::Mark;
 use sb_tree::{BinaryOp, Expr};
 use std::alloc::Global;
@@ -53,7 +52,8 @@ pub fn within<'a>(
 ) -> Result<Found<'a>, ReadFault>
     requires shallow { left ≤ 200 }
     requires rank { rank_of level ≤ 10 }
-    ensures read { Reads (spec.expr_reader (meant lexicon.now) left (plain_level level) tokens.now) result }
+    ensures read { Reads (spec.expr_reader (meant lexicon.now) left (plain_level level) tokens.now)
+        result }
     ensures depth { IfOk result (λ f. f.depth ≤ left) }
 {
     if left == 0 {
@@ -81,7 +81,8 @@ fn operated<'a>(
     requires shallow { below < 200 }
     requires known { IsKnown first }
     requires rank { tighter < 10 }
-    ensures read { Reads (nested spec.operated (meant lexicon.now) below tighter (plain_found first.entry) first.entry.rest.now) result }
+    ensures read { Reads (nested spec.operated (meant lexicon.now) below tighter
+        (plain_found first.entry) first.entry.rest.now) result }
     ensures depth { IfOk result (λ f. f.depth ≤ below + 1) }
 {
     if below < first.depth {
@@ -109,7 +110,9 @@ fn operators<'a>(
     requires known { IsKnown first }
     requires low { first.depth ≤ below + 1 }
     requires rank { tighter < 10 }
-    ensures read { Reads (looped (lexeme.is_operator (meant lexicon.now) (suc tighter)) (nested spec.operated (meant lexicon.now) below tighter) (plain_found first.entry) first.entry.rest.now) result }
+    ensures read { Reads (looped (lexeme.is_operator (meant lexicon.now) (suc tighter))
+        (nested spec.operated (meant lexicon.now) below tighter) (plain_found first.entry)
+        first.entry.rest.now) result }
     ensures depth { IfOk result (λ f. f.depth ≤ below + 1) }
 {
     let most = first.rest.len();
@@ -156,7 +159,8 @@ fn branches<'a>(
     requires shallow { below < 200 }
     requires known { IsKnown first }
     requires low { first.depth ≤ below }
-    ensures read { Reads (nested spec.branches (meant lexicon.now) below (plain_found first.entry) first.entry.rest.now) result }
+    ensures read { Reads (nested spec.branches (meant lexicon.now) below (plain_found first.entry)
+        first.entry.rest.now) result }
     ensures depth { IfOk result (λ f. f.depth ≤ below + 1) }
 {
     let question = take_mark(lexicon, Mark::Question, first.rest)?;
@@ -215,7 +219,8 @@ fn assigned<'a>(
     requires shallow { below < 200 }
     requires known { IsKnown first }
     requires low { first.depth ≤ below }
-    ensures read { Reads (nested spec.assigned (meant lexicon.now) below (plain_found first.entry) first.entry.rest.now) result }
+    ensures read { Reads (nested spec.assigned (meant lexicon.now) below (plain_found first.entry)
+        first.entry.rest.now) result }
     ensures depth { IfOk result (λ f. f.depth ≤ below + 1) }
 {
     let op = take_assignment(lexicon, first.rest)?;
@@ -260,7 +265,8 @@ fn followed<'a>(
 ) -> Result<Found<'a>, ReadFault>
     requires shallow { below < 200 }
     requires known { IsKnown first }
-    ensures read { Reads (nested spec.followed (meant lexicon.now) below (plain_found first.entry) first.entry.rest.now) result }
+    ensures read { Reads (nested spec.followed (meant lexicon.now) below (plain_found first.entry)
+        first.entry.rest.now) result }
     ensures depth { IfOk result (λ f. f.depth ≤ below + 1) }
 {
     if below < first.depth {
@@ -292,7 +298,9 @@ fn commas<'a>(
     requires shallow { below < 200 }
     requires known { IsKnown first }
     requires low { first.depth ≤ below + 1 }
-    ensures read { Reads (looped (lexeme.is_comma (meant lexicon.now)) (nested spec.followed (meant lexicon.now) below) (plain_found first.entry) first.entry.rest.now) result }
+    ensures read { Reads (looped (lexeme.is_comma (meant lexicon.now))
+        (nested spec.followed (meant lexicon.now) below) (plain_found first.entry)
+        first.entry.rest.now) result }
     ensures depth { IfOk result (λ f. f.depth ≤ below + 1) }
 {
     let most = first.rest.len();

@@ -1,7 +1,8 @@
 //! Operands and what stands behind them (C99 6.5.1, 6.5.2).
 ghost use Rattle.std.specs.Prelude.{◌≤◌, ◌<◌, ◌+◌, IfOk};
 ghost use Rattle.sb_parse.specs.Parser.{looped};
-ghost use Rattle.sb_expr.specs.Meaning.{nested, plain_found, IsKnown, IsListKnown, Reads, ReadsList};
+ghost use Rattle.sb_operand.specs.Meaning.{plain_found, IsKnown, Reads};
+ghost use Rattle.sb_expr.specs.Meaning.{nested, IsListKnown, ReadsList};
 ghost use Rattle.sb_lexicon.specs.Meaning.{meant};
 ghost use Rattle.sb_expr.specs.Parts.{member as named};
 ghost use Rattle.sb_expr.specs.Readers as spec;
@@ -9,13 +10,11 @@ ghost use Rattle.sb_lexicon.specs.Tokens as lexeme;
 ghost use Rattle.sb_tree.specs.Plain.{plain_exprs};
 
 use crate::expressions::{Level, within};
-use crate::found::Found;
-use crate::operands::take_operand;
-use crate::trees::{call, index, member, paren, unary};
 use sb_base::{Place, Token};
 use sb_lexicon::{
     Lexicon, ReadFault, Suffix, is_mark_next, is_suffix_next, take_mark, take_member, take_suffix,
 };
+use sb_operand::{Found, call, index, member, paren, take_operand, unary};
 use sb_sign::Mark;
 use sb_tree::Expr;
 use std::alloc::Global;
@@ -73,7 +72,7 @@ fn primary<'a>(
 
 /// A comma and one more argument.
 #[cycle(expression)]
-#[tactic(auto, unfolding(crate::specs::Readers::next_argument), using(crate::proofs::Lists::more_exprs, crate::proofs::Lists::depth_of_more))]
+#[tactic(auto, unfolding(crate::specs::Readers::next_argument), using(sb_operand::proofs::Lists::more_exprs, sb_operand::proofs::Lists::depth_of_more))]
 fn next_argument<'a>(
     alloc: Global,
     lexicon: &Lexicon,
@@ -83,7 +82,8 @@ fn next_argument<'a>(
     requires shallow { below < 200 }
     requires known { IsListKnown so_far }
     requires low { so_far.depth ≤ below }
-    ensures read { ReadsList (nested spec.next_argument (meant lexicon.now) below (plain_exprs so_far.entry.list.items) so_far.entry.rest.now) result }
+    ensures read { ReadsList (nested spec.next_argument (meant lexicon.now) below
+        (plain_exprs so_far.entry.list.items) so_far.entry.rest.now) result }
     ensures depth { IfOk result (λ a. a.depth ≤ below) }
 {
     let comma = take_mark(lexicon, Mark::Comma, so_far.rest)?;
@@ -108,7 +108,9 @@ fn more_arguments<'a>(
     requires shallow { below < 200 }
     requires known { IsListKnown first }
     requires low { first.depth ≤ below }
-    ensures read { ReadsList (looped (lexeme.is_comma (meant lexicon.now)) (nested spec.next_argument (meant lexicon.now) below) (plain_exprs first.entry.list.items) first.entry.rest.now) result }
+    ensures read { ReadsList (looped (lexeme.is_comma (meant lexicon.now))
+        (nested spec.next_argument (meant lexicon.now) below) (plain_exprs first.entry.list.items)
+        first.entry.rest.now) result }
     ensures depth { IfOk result (λ a. a.depth ≤ below) }
 {
     let most = first.rest.len();
@@ -131,7 +133,8 @@ fn some_arguments<'a>(
     tokens: &'a [Token],
 ) -> Result<ArgumentList<'a>, ReadFault>
     requires shallow { below < 200 }
-    ensures read { ReadsList (nested spec.some_arguments (meant lexicon.now) below tokens.now) result }
+    ensures read { ReadsList (nested spec.some_arguments (meant lexicon.now) below tokens.now)
+        result }
     ensures depth { IfOk result (λ a. a.depth ≤ below) }
 {
     let first = within(alloc, lexicon, Level::Assignment, below, tokens)?;
@@ -180,7 +183,8 @@ fn indexed<'a>(
     requires shallow { below < 200 }
     requires known { IsKnown base }
     requires low { base.depth ≤ below }
-    ensures read { Reads (nested spec.indexed (meant lexicon.now) below (plain_found base.entry) place base.entry.rest.now) result }
+    ensures read { Reads (nested spec.indexed (meant lexicon.now) below (plain_found base.entry)
+        place base.entry.rest.now) result }
     ensures depth { IfOk result (λ f. f.depth ≤ below + 1) }
 {
     let at = within(alloc, lexicon, Level::Sequence, below, base.rest)?;
@@ -205,7 +209,8 @@ fn called<'a>(
     requires shallow { below < 200 }
     requires known { IsKnown callee }
     requires low { callee.depth ≤ below }
-    ensures read { Reads (nested spec.called (meant lexicon.now) below (plain_found callee.entry) place callee.entry.rest.now) result }
+    ensures read { Reads (nested spec.called (meant lexicon.now) below (plain_found callee.entry)
+        place callee.entry.rest.now) result }
     ensures depth { IfOk result (λ f. f.depth ≤ below + 1) }
 {
     let args = arguments(alloc, lexicon, below, callee.rest)?;
@@ -227,7 +232,8 @@ fn named_member<'a>(
 ) -> Result<Found<'a>, ReadFault>
     requires known { IsKnown of }
     requires low { of.depth < 200 }
-    ensures read { Reads (named (meant lexicon.now) (plain_found of.entry) arrow place of.entry.rest.now) result }
+    ensures read { Reads (named (meant lexicon.now) (plain_found of.entry) arrow place
+        of.entry.rest.now) result }
     ensures depth { IfOk result (λ f. f.depth ≤ of.entry.depth + 1) }
 {
     let name = take_member(lexicon, of.rest)?;
@@ -250,7 +256,8 @@ fn suffixed_by<'a>(
     requires shallow { below < 200 }
     requires known { IsKnown first }
     requires low { first.depth ≤ below }
-    ensures read { Reads (nested spec.suffixed_by (meant lexicon.now) below (plain_found first.entry) suffix first.entry.rest.now) result }
+    ensures read { Reads (nested spec.suffixed_by (meant lexicon.now) below
+        (plain_found first.entry) suffix first.entry.rest.now) result }
     ensures depth { IfOk result (λ f. f.depth ≤ below + 1) }
 {
     match suffix {
@@ -275,7 +282,8 @@ fn suffixed<'a>(
 ) -> Result<Found<'a>, ReadFault>
     requires shallow { below < 200 }
     requires known { IsKnown first }
-    ensures read { Reads (nested spec.suffixed (meant lexicon.now) below (plain_found first.entry) first.entry.rest.now) result }
+    ensures read { Reads (nested spec.suffixed (meant lexicon.now) below (plain_found first.entry)
+        first.entry.rest.now) result }
     ensures depth { IfOk result (λ f. f.depth ≤ below + 1) }
 {
     if below < first.depth {
@@ -301,7 +309,9 @@ fn suffixes<'a>(
     requires shallow { below < 200 }
     requires known { IsKnown first }
     requires low { first.depth ≤ below + 1 }
-    ensures read { Reads (looped (lexeme.is_suffix (meant lexicon.now)) (nested spec.suffixed (meant lexicon.now) below) (plain_found first.entry) first.entry.rest.now) result }
+    ensures read { Reads (looped (lexeme.is_suffix (meant lexicon.now))
+        (nested spec.suffixed (meant lexicon.now) below) (plain_found first.entry)
+        first.entry.rest.now) result }
     ensures depth { IfOk result (λ f. f.depth ≤ below + 1) }
 {
     let most = first.rest.len();

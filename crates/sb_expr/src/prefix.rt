@@ -1,21 +1,20 @@
 //! Operators before an operand, `sizeof` and casts (C99 6.5.3, 6.5.4).
 ghost use Rattle.std.specs.Prelude.{◌≤◌, ◌<◌, ◌+◌, IfOk};
-ghost use Rattle.sb_expr.specs.Meaning.{nested, Reads};
+ghost use Rattle.sb_operand.specs.Meaning.{Reads};
+ghost use Rattle.sb_expr.specs.Meaning.{nested};
 ghost use Rattle.sb_lexicon.specs.Meaning.{meant, IsFault};
 ghost use Rattle.sb_expr.specs.Parts.{no_room_inside};
 ghost use Rattle.sb_expr.specs.Readers as spec;
 
 use crate::expressions::{Level, no_room, within};
-use crate::found::Found;
-use crate::pieces::typed;
 use crate::postfix::postfix;
-use crate::trees::{cast, size_of_expr, size_of_type, unary};
 use crate::type_names::type_within;
 use sb_base::{Place, Token};
 use sb_lexicon::{
     Feature, Lexicon, ReadFault, is_keyword_next, is_mark_next, is_prefix_next, is_step_next,
     is_type_second, take_keyword, take_mark, take_prefix, take_step,
 };
+use sb_operand::{Found, cast, size_of_expr, size_of_type, typed, unary};
 use sb_sign::{Keyword, Mark};
 use std::alloc::Global;
 
@@ -72,7 +71,8 @@ fn size_of_named<'a>(
     tokens: &'a [Token],
 ) -> Result<Found<'a>, ReadFault>
     requires shallow { below < 200 }
-    ensures read { Reads (nested spec.size_of_type (meant lexicon.now) below place tokens.now) result }
+    ensures read { Reads (nested spec.size_of_type (meant lexicon.now) below place tokens.now)
+        result }
     ensures depth { IfOk result (λ f. f.depth ≤ below + 1) }
 {
     let open = take_mark(lexicon, Mark::OpenParenthesis, tokens)?;
@@ -109,7 +109,8 @@ fn size_of_operand<'a>(
     tokens: &'a [Token],
 ) -> Result<Found<'a>, ReadFault>
     requires shallow { below < 200 }
-    ensures read { Reads (nested spec.size_of_expr (meant lexicon.now) below place tokens.now) result }
+    ensures read { Reads (nested spec.size_of_expr (meant lexicon.now) below place tokens.now)
+        result }
     ensures depth { IfOk result (λ f. f.depth ≤ below + 1) }
 {
     let of = within(alloc, lexicon, Level::Prefix, below, tokens)?;
@@ -131,7 +132,8 @@ fn size_of_either<'a>(
     tokens: &'a [Token],
 ) -> Result<Found<'a>, ReadFault>
     requires shallow { below < 200 }
-    ensures read { Reads (nested spec.size_of_either (meant lexicon.now) below place tokens.now) result }
+    ensures read { Reads (nested spec.size_of_either (meant lexicon.now) below place tokens.now)
+        result }
     ensures depth { IfOk result (λ f. f.depth ≤ below + 1) }
 {
     if is_type_second(lexicon, tokens) {

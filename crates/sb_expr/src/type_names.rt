@@ -4,14 +4,13 @@ ghost use Rattle.sb_expr.specs.Meaning.{nested, ReadsType};
 ghost use Rattle.sb_lexicon.specs.Meaning.{meant, IsFault};
 ghost use Rattle.sb_expr.specs.Readers as spec;
 
-use crate::base_types::base_type;
 use crate::declarators::declarator;
-use crate::pieces::Piece;
 use sb_base::Token;
 use sb_lexicon::{
     Feature, Lexicon, ReadFault, Said, is_complex_next, is_floating_next, is_keyword_next,
     is_type_next, is_union_next,
 };
+use sb_operand::{Piece, base_type};
 use sb_sign::Keyword;
 use sb_tree::TypeName;
 use std::alloc::Global;
@@ -26,7 +25,7 @@ pub struct NamedType<'a> {
 }
 
 #[cycle(expression)]
-#[tactic(auto, unfolding(crate::specs::Readers::type_named), using(crate::proofs::PieceDepths::depth_of_typed))]
+#[tactic(auto, unfolding(crate::specs::Readers::type_named), using(sb_operand::proofs::PieceDepths::depth_of_typed))]
 fn type_named<'a>(
     alloc: Global,
     lexicon: &Lexicon,

@@ -36,6 +36,19 @@ of_update text =
     else (if bytes_eq text (codes "_Outptr_result_buffer_") then Some arguments.Size
     else None)))))))
 
+-- annotations of what is written whole, up to a zero, in part, or within a range
+abbrev pub of_output_extent : List ℕ → Option Arguments
+of_output_extent text =
+    if bytes_eq text (codes "_Out_writes_all_") then Some arguments.Size
+    else (if bytes_eq text (codes "_Out_writes_bytes_all_") then Some arguments.Size
+    else (if bytes_eq text (codes "_Out_writes_all_opt_") then Some arguments.Size
+    else (if bytes_eq text (codes "_Out_writes_z_") then Some arguments.Size
+    else (if bytes_eq text (codes "_Out_writes_to_") then Some arguments.Sizes
+    else (if bytes_eq text (codes "_Out_writes_bytes_to_") then Some arguments.Sizes
+    else (if bytes_eq text (codes "_Out_writes_to_opt_") then Some arguments.Sizes
+    else (if bytes_eq text (codes "_Out_range_") then Some arguments.Sizes
+    else None)))))))
+
 -- annotations of what is written
 abbrev pub of_output : List ℕ → Option Arguments
 of_output text =
@@ -45,15 +58,7 @@ of_output text =
     else (if bytes_eq text (codes "_Out_writes_bytes_") then Some arguments.Size
     else (if bytes_eq text (codes "_Out_writes_opt_") then Some arguments.Size
     else (if bytes_eq text (codes "_Out_writes_bytes_opt_") then Some arguments.Size
-    else (if bytes_eq text (codes "_Out_writes_all_") then Some arguments.Size
-    else (if bytes_eq text (codes "_Out_writes_bytes_all_") then Some arguments.Size
-    else (if bytes_eq text (codes "_Out_writes_all_opt_") then Some arguments.Size
-    else (if bytes_eq text (codes "_Out_writes_z_") then Some arguments.Size
-    else (if bytes_eq text (codes "_Out_writes_to_") then Some arguments.Sizes
-    else (if bytes_eq text (codes "_Out_writes_bytes_to_") then Some arguments.Sizes
-    else (if bytes_eq text (codes "_Out_writes_to_opt_") then Some arguments.Sizes
-    else (if bytes_eq text (codes "_Out_range_") then Some arguments.Sizes
-    else None)))))))))))))
+    else of_output_extent text)))))
 
 -- annotations of results
 abbrev pub of_result : List ℕ → Option Arguments

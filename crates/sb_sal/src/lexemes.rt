@@ -13,10 +13,10 @@ ghost use Rattle.sb_sign.specs.Signs.{text_at};
 use crate::bearer::Bearer;
 use crate::spelling::{Arguments, arguments_in, looks_like_note, may_stand_by};
 use sb_base::{Name, Names, Place, Token};
-use sb_expr::begins_expr;
 use sb_lexicon::{
     Lexicon, Read, ReadFault, binary_at, is_assignment, is_mark, is_suffix, is_type_name, name_of,
 };
+use sb_operand::begins_expr;
 use sb_sign::{Mark, mark_of};
 
 /// The name of an annotation, where it stands, and which arguments it takes.
@@ -185,7 +185,9 @@ pub fn is_bare_next(lexicon: &Lexicon, tokens: &[Token]) -> bool
 
 /// Whether an annotation comes next that may not stand on a declaration of this kind.
 pub fn is_misplaced_next(lexicon: &Lexicon, bearer: Bearer, tokens: &[Token]) -> bool
-    ensures { result ≡ at_next (λ t. spec.is_listed (meant lexicon.now) t && not (spec.may_stand (meant lexicon.now) bearer t)) tokens.now }
+    ensures { result ≡ at_next
+        (λ t. spec.is_listed (meant lexicon.now) t
+        && not (spec.may_stand (meant lexicon.now) bearer t)) tokens.now }
 {
     match tokens.first() {
         Some(token) => is_listed(lexicon, token) && !may_stand(lexicon, bearer, token),
@@ -195,7 +197,10 @@ pub fn is_misplaced_next(lexicon: &Lexicon, bearer: Bearer, tokens: &[Token]) ->
 
 /// Whether an annotation with arguments comes next and its parts, at most `below` deep, have no room.
 pub(crate) fn is_deep_next(lexicon: &Lexicon, below: u32, tokens: &[Token]) -> bool
-    ensures { result ≡ at_next (λ t. expr.is_zero below && (spec.is_listed (meant lexicon.now) t && not (reader.is_bare (meant lexicon.now) t))) tokens.now }
+    ensures { result ≡ at_next
+        (λ t. expr.is_zero below
+        && (spec.is_listed (meant lexicon.now) t && not (reader.is_bare (meant lexicon.now) t)))
+        tokens.now }
 {
     match tokens.first() {
         Some(token) => below == 0 && is_listed(lexicon, token) && !is_bare(lexicon, token),
@@ -243,7 +248,9 @@ pub(crate) fn is_operand_next(lexicon: &Lexicon, tokens: &[Token]) -> bool
 
 /// Whether a size or a condition is missing: the next token closes the parentheses or is an annotation.
 pub(crate) fn is_value_missing(lexicon: &Lexicon, tokens: &[Token]) -> bool
-    ensures { result ≡ at_next (λ t. expr.is_close (meant lexicon.now) t || spec.is_listed (meant lexicon.now) t) tokens.now }
+    ensures { result ≡ at_next
+        (λ t. expr.is_close (meant lexicon.now) t || spec.is_listed (meant lexicon.now) t)
+        tokens.now }
 {
     match tokens.first() {
         Some(token) => {
@@ -255,7 +262,9 @@ pub(crate) fn is_value_missing(lexicon: &Lexicon, tokens: &[Token]) -> bool
 
 /// Whether the next token shows an argument of another kind, or none: it closes the parentheses or begins an expression.
 pub(crate) fn is_other_next(lexicon: &Lexicon, tokens: &[Token]) -> bool
-    ensures { result ≡ at_next (λ t. expr.is_close (meant lexicon.now) t || expr.begins_expr (notes.inside (meant lexicon.now)) t) tokens.now }
+    ensures { result ≡ at_next
+        (λ t. expr.is_close (meant lexicon.now) t
+        || expr.begins_expr (notes.inside (meant lexicon.now)) t) tokens.now }
 {
     match tokens.first() {
         Some(token) => {
@@ -272,7 +281,8 @@ pub(crate) fn take_head<'a>(
     lexicon: &Lexicon,
     tokens: &'a [Token],
 ) -> Result<Read<'a, Head>, ReadFault>
-    ensures { GivesAs plain_head (taken expr.unexpected (reader.head_of (meant lexicon.now)) tokens.now) result }
+    ensures { GivesAs plain_head
+        (taken expr.unexpected (reader.head_of (meant lexicon.now)) tokens.now) result }
 {
     let Some((token, rest)) = tokens.split_first() else {
         return Err(ReadFault::at_end());

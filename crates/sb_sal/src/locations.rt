@@ -1,6 +1,6 @@
 //! What an annotation can be moved to: a parameter, what it points to, a member of that, or the result.
-ghost use Rattle.std.specs.Prelude.{◌≡◌, ◌≤◌, IfOk};
-ghost use Rattle.sb_parse.specs.Parser.{taken};
+ghost use Rattle.std.specs.Prelude.{◌≡◌, ◌≤◌, nat_lt, IfOk};
+ghost use Rattle.sb_parse.specs.Parser.{guard, taken};
 ghost use Rattle.sb_lexicon.specs.Meaning.{meant};
 ghost use Rattle.sb_lexicon.specs.Tokens as expr;
 ghost use Rattle.sb_sal.specs.Meaning.{IsLocationKnown, ReadsLocation};
@@ -25,7 +25,9 @@ use std::alloc::Global;
 /// A location of so many tokens, unless the expression goes on.
 fn ended<'a>(lexicon: &Lexicon, count: u8, found: Location<'a>) -> Result<Location<'a>, ReadFault>
     requires known { IsLocationKnown found }
-    ensures read { ReadsLocation (spec.ending (meant lexicon.now) count (plain_expr found.entry.tree) found.entry.rest.now) result }
+    ensures read { ReadsLocation
+        (spec.ending (meant lexicon.now) count (plain_expr found.entry.tree) found.entry.rest.now)
+        result }
     ensures depth { IfOk result (λ l. l.depth ≡ found.entry.depth) }
 {
     if is_continued(lexicon, found.rest) {
@@ -39,7 +41,9 @@ pub(crate) fn ended_word<'a>(
     lexicon: &Lexicon,
     word: Read<'a, Token>,
 ) -> Result<Location<'a>, ReadFault>
-    ensures read { ReadsLocation (spec.ending (meant lexicon.now) 1 (tree.Identifier word.entry.value.text word.entry.value.place) word.entry.rest.now) result }
+    ensures read { ReadsLocation
+        (spec.ending (meant lexicon.now) 1
+        (tree.Identifier word.entry.value.text word.entry.value.place) word.entry.rest.now) result }
     ensures depth { IfOk result (λ l. l.depth ≡ 1) }
 {
     let found = Location {
@@ -61,7 +65,8 @@ fn returned<'a>(lexicon: &Lexicon, tokens: &'a [Token]) -> Result<Location<'a>, 
 
 /// A name that is no annotation's.
 fn take_named<'a>(lexicon: &Lexicon, tokens: &'a [Token]) -> Result<Location<'a>, ReadFault>
-    ensures read { ReadsLocation (taken expr.unexpected (spec.named (meant lexicon.now)) tokens.now) result }
+    ensures read { ReadsLocation (taken expr.unexpected (spec.named (meant lexicon.now)) tokens.now)
+        result }
     ensures depth { IfOk result (λ l. l.depth ≡ 1) }
 {
     let Some((token, rest)) = tokens.split_first() else {
@@ -81,7 +86,8 @@ fn take_named<'a>(lexicon: &Lexicon, tokens: &'a [Token]) -> Result<Location<'a>
 fn field<'a>(alloc: Global, lexicon: &Lexicon, of: Location<'a>) -> Result<Location<'a>, ReadFault>
     requires known { IsLocationKnown of }
     requires flat { of.depth ≡ 1 }
-    ensures read { ReadsLocation (part.field (meant lexicon.now) (plain_expr of.entry.tree) of.entry.rest.now) result }
+    ensures read { ReadsLocation
+        (part.field (meant lexicon.now) (plain_expr of.entry.tree) of.entry.rest.now) result }
     ensures depth { IfOk result (λ l. l.depth ≡ 2) }
 {
     let parameter = Box::new(alloc, of.tree)?;
@@ -94,6 +100,26 @@ fn field<'a>(alloc: Global, lexicon: &Lexicon, of: Location<'a>) -> Result<Locat
         rest: name.rest,
     };
     ended(lexicon, 3, found)
+}
+
+/// A member of what a parameter points to, where there is room for it.
+fn field_within<'a>(
+    alloc: Global,
+    lexicon: &Lexicon,
+    below: u32,
+    of: Location<'a>,
+) -> Result<Location<'a>, ReadFault>
+    requires known { IsLocationKnown of }
+    requires flat { of.depth ≡ 1 }
+    ensures read { ReadsLocation
+        (guard (nat_lt below 2) expr.too_deep
+        (part.field (meant lexicon.now) (plain_expr of.entry.tree)) of.entry.rest.now) result }
+    ensures depth { IfOk result (λ l. l.depth ≤ below) }
+{
+    if below < 2 {
+        return Err(ReadFault::too_deep(of.rest));
+    }
+    field(alloc, lexicon, of)
 }
 
 /// A parameter, or a member of what it points to.
@@ -112,10 +138,7 @@ fn parameter<'a>(
     if !is_mark_next(lexicon, Mark::Arrow, named.rest) {
         return ended(lexicon, 1, named);
     }
-    if below < 2 {
-        return Err(ReadFault::too_deep(named.rest));
-    }
-    field(alloc, lexicon, named)
+    field_within(alloc, lexicon, below, named)
 }
 
 /// What a parameter points to.

@@ -19,7 +19,7 @@ use crate::locations::location;
 use crate::spelling::Arguments;
 use crate::trees::{
     Argument, ArgumentList, FoundNote, NoteList, alone, location_argument, none, note_argument,
-    pair,
+    with_argument,
 };
 use sb_base::Token;
 use sb_lexicon::{Lexicon, ReadFault, Reason, is_mark_next, take_mark};
@@ -29,7 +29,8 @@ use std::alloc::Global;
 
 /// The refusal of an annotation for which there is no room.
 fn no_room(lexicon: &Lexicon, bearer: Bearer, tokens: &[Token]) -> ReadFault
-    ensures { IsFault (part.no_note (meant lexicon.now) (may_stand (meant lexicon.now) bearer) tokens.now) result }
+    ensures { IsFault (part.no_note (meant lexicon.now) (may_stand (meant lexicon.now) bearer)
+        tokens.now) result }
 {
     if is_unlisted_next(lexicon, tokens) {
         return ReadFault::at(Reason::UnknownAnnotation, tokens);
@@ -53,7 +54,8 @@ fn note_within<'a>(
     tokens: &'a [Token],
 ) -> Result<FoundNote<'a>, ReadFault>
     requires shallow { left ≤ 200 }
-    ensures read { ReadsNote (spec.note_reader (meant lexicon.now) left (may_stand (meant lexicon.now) bearer) tokens.now) result }
+    ensures read { ReadsNote (spec.note_reader (meant lexicon.now) left
+        (may_stand (meant lexicon.now) bearer) tokens.now) result }
     ensures depth { IfOk result (λ n. n.depth ≤ left) }
 {
     if left == 0 {
@@ -72,7 +74,9 @@ fn inner<'a>(
     tokens: &'a [Token],
 ) -> Result<Argument<'a>, ReadFault>
     requires shallow { below < 200 }
-    ensures read { ReadsArgument (part.inner (meant lexicon.now) (spec.note_reader (meant lexicon.now) below) (may_stand (meant lexicon.now) bearer) tokens.now) result }
+    ensures read { ReadsArgument
+        (part.inner (meant lexicon.now) (spec.note_reader (meant lexicon.now) below)
+        (may_stand (meant lexicon.now) bearer) tokens.now) result }
     ensures depth { IfOk result (λ a. a.depth ≤ below) }
 {
     if is_note_next(lexicon, tokens) {
@@ -85,6 +89,64 @@ fn inner<'a>(
     Err(ReadFault::unexpected(tokens))
 }
 
+/// A size or a condition alone.
+#[tactic(auto, unfolding(crate::specs::Readers::one))]
+fn one_value<'a>(
+    alloc: Global,
+    lexicon: &Lexicon,
+    bearer: Bearer,
+    below: u32,
+    tokens: &'a [Token],
+) -> Result<ArgumentList<'a>, ReadFault>
+    requires shallow { below < 200 }
+    ensures read { ReadsArguments
+        (noted spec.arguments_by (meant lexicon.now) below bearer arguments.Size tokens.now)
+        result }
+    ensures depth { IfOk result (λ l. l.depth ≤ below) }
+{
+    let size = value(alloc, lexicon, below, tokens)?;
+    Ok(alone(alloc, size)?)
+}
+
+/// The word `Mem` alone.
+#[tactic(auto, unfolding(crate::specs::Readers::one, crate::specs::Readers::memory))]
+fn one_word<'a>(
+    alloc: Global,
+    lexicon: &Lexicon,
+    bearer: Bearer,
+    below: u32,
+    tokens: &'a [Token],
+) -> Result<ArgumentList<'a>, ReadFault>
+    requires some { 1 ≤ below }
+    ensures read { ReadsArguments
+        (noted spec.arguments_by (meant lexicon.now) below bearer arguments.Memory tokens.now)
+        result }
+    ensures depth { IfOk result (λ l. l.depth ≤ below) }
+{
+    let word = memory(lexicon, tokens)?;
+    Ok(alone(alloc, word)?)
+}
+
+/// An annotation alone.
+#[cycle(annotation)]
+#[tactic(auto, unfolding(crate::specs::Readers::one, crate::specs::Readers::inner))]
+fn one_note<'a>(
+    alloc: Global,
+    lexicon: &Lexicon,
+    bearer: Bearer,
+    below: u32,
+    tokens: &'a [Token],
+) -> Result<ArgumentList<'a>, ReadFault>
+    requires shallow { below < 200 }
+    ensures read { ReadsArguments
+        (noted spec.arguments_by (meant lexicon.now) below bearer arguments.Note tokens.now)
+        result }
+    ensures depth { IfOk result (λ l. l.depth ≤ below) }
+{
+    let note = inner(alloc, lexicon, bearer, below, tokens)?;
+    Ok(alone(alloc, note)?)
+}
+
 /// Two sizes, or the ends of a range.
 #[tactic(auto, unfolding(crate::specs::Readers::two, crate::specs::Readers::separator))]
 fn two_values<'a>(
@@ -95,13 +157,15 @@ fn two_values<'a>(
     tokens: &'a [Token],
 ) -> Result<ArgumentList<'a>, ReadFault>
     requires shallow { below < 200 }
-    ensures read { ReadsArguments (noted spec.arguments_by (meant lexicon.now) below bearer arguments.Sizes tokens.now) result }
+    ensures read { ReadsArguments
+        (noted spec.arguments_by (meant lexicon.now) below bearer arguments.Sizes tokens.now)
+        result }
     ensures depth { IfOk result (λ l. l.depth ≤ below) }
 {
-    let first = value(alloc, lexicon, below, tokens)?;
+    let first = alone(alloc, value(alloc, lexicon, below, tokens)?)?;
     let comma = separator(lexicon, first.rest)?;
     let second = value(alloc, lexicon, below, comma.rest)?;
-    Ok(pair(alloc, first, second)?)
+    Ok(with_argument(first, second)?)
 }
 
 /// A condition and an annotation.
@@ -115,13 +179,15 @@ fn guarded<'a>(
     tokens: &'a [Token],
 ) -> Result<ArgumentList<'a>, ReadFault>
     requires shallow { below < 200 }
-    ensures read { ReadsArguments (noted spec.arguments_by (meant lexicon.now) below bearer arguments.GuardedNote tokens.now) result }
+    ensures read { ReadsArguments
+        (noted spec.arguments_by (meant lexicon.now) below bearer arguments.GuardedNote tokens.now)
+        result }
     ensures depth { IfOk result (λ l. l.depth ≤ below) }
 {
-    let first = value(alloc, lexicon, below, tokens)?;
+    let first = alone(alloc, value(alloc, lexicon, below, tokens)?)?;
     let comma = separator(lexicon, first.rest)?;
     let second = inner(alloc, lexicon, bearer, below, comma.rest)?;
-    Ok(pair(alloc, first, second)?)
+    Ok(with_argument(first, second)?)
 }
 
 /// A location and an annotation, which may be any.
@@ -136,18 +202,20 @@ fn located<'a>(
 ) -> Result<ArgumentList<'a>, ReadFault>
     requires shallow { below < 200 }
     requires some { 1 ≤ below }
-    ensures read { ReadsArguments (noted spec.arguments_by (meant lexicon.now) below bearer arguments.LocatedNote tokens.now) result }
+    ensures read { ReadsArguments
+        (noted spec.arguments_by (meant lexicon.now) below bearer arguments.LocatedNote tokens.now)
+        result }
     ensures depth { IfOk result (λ l. l.depth ≤ below) }
 {
     let found = location(alloc, lexicon, below, tokens)?;
-    let comma = separator(lexicon, found.rest)?;
+    let first = alone(alloc, location_argument(found))?;
+    let comma = separator(lexicon, first.rest)?;
     let second = inner(alloc, lexicon, Bearer::Any, below, comma.rest)?;
-    Ok(pair(alloc, location_argument(found), second)?)
+    Ok(with_argument(first, second)?)
 }
 
 /// The arguments of an annotation that takes such.
 #[cycle(annotation)]
-#[tactic(auto, unfolding(crate::specs::Readers::one, crate::specs::Readers::memory, crate::specs::Readers::inner))]
 fn arguments_by<'a>(
     alloc: Global,
     lexicon: &Lexicon,
@@ -158,24 +226,16 @@ fn arguments_by<'a>(
 ) -> Result<ArgumentList<'a>, ReadFault>
     requires shallow { below < 200 }
     requires some { 1 ≤ below }
-    ensures read { ReadsArguments (noted spec.arguments_by (meant lexicon.now) below bearer kind tokens.now) result }
+    ensures read { ReadsArguments
+        (noted spec.arguments_by (meant lexicon.now) below bearer kind tokens.now) result }
     ensures depth { IfOk result (λ l. l.depth ≤ below) }
 {
     match kind {
         Arguments::Nothing => Ok(none(alloc, tokens)),
-        Arguments::Size | Arguments::Condition => {
-            let size = value(alloc, lexicon, below, tokens)?;
-            Ok(alone(alloc, size)?)
-        }
+        Arguments::Size | Arguments::Condition => one_value(alloc, lexicon, bearer, below, tokens),
         Arguments::Sizes => two_values(alloc, lexicon, bearer, below, tokens),
-        Arguments::Memory => {
-            let word = memory(lexicon, tokens)?;
-            Ok(alone(alloc, word)?)
-        }
-        Arguments::Note => {
-            let note = inner(alloc, lexicon, bearer, below, tokens)?;
-            Ok(alone(alloc, note)?)
-        }
+        Arguments::Memory => one_word(alloc, lexicon, bearer, below, tokens),
+        Arguments::Note => one_note(alloc, lexicon, bearer, below, tokens),
         Arguments::GuardedNote => guarded(alloc, lexicon, bearer, below, tokens),
         Arguments::LocatedNote => located(alloc, lexicon, bearer, below, tokens),
     }
@@ -194,7 +254,8 @@ fn in_parentheses<'a>(
 ) -> Result<FoundNote<'a>, ReadFault>
     requires shallow { below < 200 }
     requires some { 1 ≤ below }
-    ensures read { ReadsNote (noted spec.in_parentheses (meant lexicon.now) below bearer (plain_head head) tokens.now) result }
+    ensures read { ReadsNote (noted spec.in_parentheses (meant lexicon.now) below bearer
+        (plain_head head) tokens.now) result }
     ensures depth { IfOk result (λ n. n.depth ≤ below + 1) }
 {
     let open = take_mark(lexicon, Mark::OpenParenthesis, tokens)?;
@@ -229,7 +290,8 @@ fn applied<'a>(
 ) -> Result<FoundNote<'a>, ReadFault>
     requires shallow { below < 200 }
     requires some { 1 ≤ below }
-    ensures read { ReadsNote (noted spec.applied (meant lexicon.now) below bearer tokens.now) result }
+    ensures read { ReadsNote (noted spec.applied (meant lexicon.now) below bearer tokens.now)
+        result }
     ensures depth { IfOk result (λ n. n.depth ≤ below + 1) }
 {
     let head = take_head(lexicon, tokens)?;
@@ -302,7 +364,9 @@ fn next_note<'a>(
     requires shallow { left ≤ 200 }
     requires known { AreNotesKnown so_far }
     requires low { so_far.depth ≤ left }
-    ensures read { ReadsNotes (spec.next_note (meant lexicon.now) left (may_stand (meant lexicon.now) bearer) (plain_notes so_far.entry.list.items) so_far.entry.rest.now) result }
+    ensures read { ReadsNotes (spec.next_note (meant lexicon.now) left
+        (may_stand (meant lexicon.now) bearer) (plain_notes so_far.entry.list.items)
+        so_far.entry.rest.now) result }
     ensures depth { IfOk result (λ ns. ns.depth ≤ left) }
 {
     let next = note_within(alloc, lexicon, bearer, left, so_far.rest)?;
@@ -324,7 +388,8 @@ pub fn notes_within<'a>(
     tokens: &'a [Token],
 ) -> Result<NoteList<'a>, ReadFault>
     requires shallow { left ≤ 200 }
-    ensures read { ReadsNotes (spec.notes_reader (meant lexicon.now) left (may_stand (meant lexicon.now) bearer) tokens.now) result }
+    ensures read { ReadsNotes (spec.notes_reader (meant lexicon.now) left
+        (may_stand (meant lexicon.now) bearer) tokens.now) result }
     ensures depth { IfOk result (λ ns. ns.depth ≤ left) }
 {
     let mut found = NoteList {

@@ -91,7 +91,16 @@ fn of_output(text: &[u8]) -> Option<Arguments>
         Some(Arguments::Size)
     } else if text == b"_Out_writes_bytes_opt_".as_slice() {
         Some(Arguments::Size)
-    } else if text == b"_Out_writes_all_".as_slice() {
+    } else {
+        of_output_extent(text)
+    }
+}
+
+/// Annotations of what is written whole, up to a zero, in part, or within a range.
+fn of_output_extent(text: &[u8]) -> Option<Arguments>
+    ensures { result ≡ spec.of_output_extent text.now }
+{
+    if text == b"_Out_writes_all_".as_slice() {
         Some(Arguments::Size)
     } else if text == b"_Out_writes_bytes_all_".as_slice() {
         Some(Arguments::Size)

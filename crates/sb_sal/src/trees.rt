@@ -1,12 +1,12 @@
 //! Annotations and their arguments as they are read: each with how deep its tree is, and the tokens after it.
-ghost use Rattle.std.specs.Prelude.{◌≡◌, ◌≤◌, [], ◌∷◌, max, IfOk};
-ghost use Rattle.sb_expr.specs.Meaning.{plain_found, IsKnown};
+ghost use Rattle.std.specs.Prelude.{◌≡◌, ◌≤◌, [], ◌∷◌, ◌++◌, max, IfOk};
+ghost use Rattle.sb_operand.specs.Meaning.{plain_found, IsKnown};
 ghost use Rattle.sb_sal.specs.Meaning.{IsLocationKnown, IsArgumentKnown, AreArgumentsKnown, IsNoteKnown};
 ghost use Rattle.sb_tree.specs.Plain.{plain_expr, plain_arg, plain_args, plain_note};
 ghost use Rattle.sb_tree.specs.Trees as tree;
 
 use sb_base::Token;
-use sb_expr::Found;
+use sb_operand::Found;
 use sb_tree::{Arg, Expr, Note};
 use std::alloc::{AllocError, Global};
 
@@ -86,7 +86,8 @@ pub(crate) fn note_argument<'a>(
     found: FoundNote<'a>,
 ) -> Result<Argument<'a>, AllocError>
     requires known { IsNoteKnown found }
-    ensures tree { IfOk result (λ a. plain_arg a.tree ≡ tree.NoteArg (plain_note found.entry.tree)) }
+    ensures tree { IfOk result
+        (λ a. plain_arg a.tree ≡ tree.NoteArg (plain_note found.entry.tree)) }
     ensures known { IfOk result (λ a. IsArgumentKnown a) }
     ensures depth { IfOk result (λ a. a.depth ≡ found.entry.depth) }
     ensures rest { IfOk result (λ a. a.rest.now ≡ found.entry.rest.now) }
@@ -129,25 +130,26 @@ pub(crate) fn alone<'a>(alloc: Global, first: Argument<'a>) -> Result<ArgumentLi
     })
 }
 
-/// Two arguments, the second of which was read behind the first.
-pub(crate) fn pair<'a>(
-    alloc: Global,
-    first: Argument<'a>,
-    second: Argument<'a>,
+/// One more argument, which was read behind the others.
+#[tactic(auto, using(crate::proofs::Lists::more_args, crate::proofs::Lists::depth_of_more_args))]
+pub(crate) fn with_argument<'a>(
+    before: ArgumentList<'a>,
+    next: Argument<'a>,
 ) -> Result<ArgumentList<'a>, AllocError>
-    requires first { IsArgumentKnown first }
-    requires second { IsArgumentKnown second }
-    ensures list { IfOk result (λ l. plain_args l.list.items ≡ plain_arg first.entry.tree ∷ (plain_arg second.entry.tree ∷ [])) }
+    requires before { AreArgumentsKnown before }
+    requires next { IsArgumentKnown next }
+    ensures list { IfOk result
+        (λ l. plain_args l.list.items ≡ plain_args before.entry.list.items
+        ++ (plain_arg next.entry.tree ∷ [])) }
     ensures known { IfOk result (λ l. AreArgumentsKnown l) }
-    ensures depth { IfOk result (λ l. l.depth ≡ max first.entry.depth second.entry.depth) }
-    ensures rest { IfOk result (λ l. l.rest.now ≡ second.entry.rest.now) }
+    ensures depth { IfOk result (λ l. l.depth ≡ max before.entry.depth next.entry.depth) }
+    ensures rest { IfOk result (λ l. l.rest.now ≡ next.entry.rest.now) }
 {
-    let mut list = Vec::new(alloc);
-    list.push(first.tree)?;
-    list.push(second.tree)?;
+    let mut list = before.list;
+    list.push(next.tree)?;
     Ok(ArgumentList {
         list,
-        depth: first.depth.max(second.depth),
-        rest: second.rest,
+        depth: before.depth.max(next.depth),
+        rest: next.rest,
     })
 }

@@ -2,7 +2,7 @@ use Rattle.std.proofs.Common.{◌<◌, sym, refl, arith, length}
 use Rattle.std.proofs.lemmas.Result.{err_from_is_err_and}
 use Rattle.sb_tree.specs.Plain.{plain_exprs}
 use Rattle.sb_expr.specs.Expression.{Prefix, Infix, Conditional, Assignment, Sequence}
-use Rattle.sb_expr.specs.Meaning.{plain_found, plain_pieces}
+use Rattle.sb_operand.specs.Meaning.{plain_found, plain_pieces}
 use Rattle.sb_lexicon.specs.Meaning.{meant}
 use Rattle.sb_expr.proofs.Deeper.{one_expr, no_exprs, one_type, no_types, one_declarator, no_declarators, no_infix, some_infix, arrayed_at, pointed_at}
 use Rattle.sb_lexicon.proofs.Loops.{loop_ends, loop_over, loop_goes, loop_faults, fault_first}

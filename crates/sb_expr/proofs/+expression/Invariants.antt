@@ -1,7 +1,8 @@
 use Rattle.std.proofs.Common.{◌≡◌, ◌≤◌, ◌+◌, ◌*◌, ◌-◌, length, suc}
 use Rattle.sb_parse.specs.Parser.{loop}
 use Rattle.sb_tree.specs.Plain.{plain_exprs}
-use Rattle.sb_expr.specs.Meaning.{nested, piecewise, plain_found, plain_pieces, IsKnown, IsListKnown, IsDeep, IsSized}
+use Rattle.sb_operand.specs.Meaning.{plain_found, plain_pieces, IsKnown, IsDeep, IsSized}
+use Rattle.sb_expr.specs.Meaning.{nested, piecewise, IsListKnown}
 use Rattle.sb_lexicon.specs.Meaning.{meant}
 use Rattle.sb_expr.specs.Readers as spec
 use Rattle.sb_lexicon.specs.Tokens as lexeme

@@ -10,7 +10,7 @@ use Rattle.sb_tree.specs.Trees.{ExprTree, depth_of_expr, depth_of_type}
 use Rattle.sb_parse.specs.Descent.{choose_second}
 use Rattle.sb_expr.specs.Expression.{Prefix, Infix, IsExpr, is_uncast, is_cast}
 use Rattle.sb_lexicon.specs.Lexicon.{Lexicon, begins_type}
-use Rattle.sb_expr.specs.Pieces.{Declared, type_of}
+use Rattle.sb_operand.specs.Pieces.{Declared, type_of}
 use Rattle.sb_expr.specs.Readers.{Parts, ExprReader, prefix_expr, cast, cast_expr}
 use Rattle.sb_lexicon.specs.Tokens.{too_deep, compound_literal, is_zero, is_open, is_open_brace}
 use Rattle.sb_expr.specs.Reads.{FitsExpr}

@@ -15,9 +15,10 @@ use Rattle.sb_sign.specs.Signs as sign
 use Rattle.sb_tree.specs.Trees as tree
 use Rattle.sb_tree.specs.Trees.{ExprTree, OptionalExpr, depth_of_optional_expr}
 use Rattle.sb_lexicon.specs.Lexicon.{Lexicon, is_mark, is_keyword, is_type_keyword, is_type_word}
-use Rattle.sb_expr.specs.Pieces.{Piece, Constant, Pointed, Arrayed, Grouped, constant_if}
+use Rattle.sb_operand.specs.Pieces.{Piece, Constant, Pointed, Arrayed, Grouped, constant_if}
 use Rattle.sb_expr.specs.Expression.{Assignment, AreQualifiers, no_qualifiers, constant, restricted, IsAbstract, is_direct, is_pointer, IsDirect, is_nothing_more, is_in_parentheses, is_array, IsSize, no_size, a_size}
-use Rattle.sb_expr.specs.Readers.{begins_abstract, begins_parameters, calls, one_if, PieceReader, qualifier, pointed, inside, in_parentheses, sized, arrayed, direct, abstract_declarator, no_declarator, declarators}
+use Rattle.sb_operand.specs.Readers.{begins_abstract, begins_parameters, calls, one_if, PieceReader, no_declarator}
+use Rattle.sb_expr.specs.Readers.{qualifier, pointed, inside, in_parentheses, sized, arrayed, direct, abstract_declarator, declarators}
 use Rattle.sb_lexicon.specs.Tokens.{unexpected, too_deep, volatile, function_pointer, is_zero, is_open, is_close, is_open_bracket, is_close_bracket, is_star, is_qualifier}
 use Rattle.sb_expr.specs.Reads.{FitsExpr}
 use Rattle.sb_expr.proofs.tokens.More.{more, behind_pointers, is_empty, more_direct, more_abstract}
@@ -25,7 +26,7 @@ use Rattle.sb_parse.proofs.Ways.{first_fails, second_fails, or_false, or_first, 
 use Rattle.sb_lexicon.proofs.Lexemes.{kind_off, mark_is, mark_alone, mark_no_keyword, close_token, close_token_is, close_bracket_token, close_bracket_token_is, star_token, star_token_is}
 use Rattle.sb_expr.proofs.tokens.Bracketed.{no_more_at_bracket, no_bracket_first, mark_unqualified, no_more_at_close}
 use Rattle.sb_parse.proofs.Descending.{descent_from, descent_step, descent_bottom}
-use Rattle.sb_expr.proofs.Putting.{InnerFits}
+use Rattle.sb_operand.proofs.Putting.{InnerFits}
 
 -- a declarator of so many pieces, in which what stands inside a piece has room
 pub record FitsPieces (w : Lexicon) (below room : ℕ) (ts : List Token) (ps : List Piece) : Type 0 where

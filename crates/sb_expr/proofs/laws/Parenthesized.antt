@@ -18,7 +18,7 @@ use Rattle.sb_parse.specs.Descent.{at_second}
 use Rattle.sb_expr.specs.Expression.{Primary, Postfix, Prefix, Infix, Sequence, IsExpr, is_uncast, is_tighter, is_infix, is_chosen, is_assigned, is_operand, is_grouped, is_primary, is_indexed, is_called, is_member, is_stepped, is_postfix, is_prefixed, is_stepping, is_size_of_expr, is_size_of_type, IsType, is_type}
 use Rattle.sb_lexicon.specs.Specifiers.{IsSpecifier, is_word, is_constant, is_restricted, is_structure, is_enumeration, is_defined, AreSpecifiers, no_specifiers, more_specifiers}
 use Rattle.sb_lexicon.specs.Lexicon.{Lexicon, is_type_keyword, is_type_word, is_type_name, begins_type}
-use Rattle.sb_expr.specs.Pieces.{Declared}
+use Rattle.sb_operand.specs.Pieces.{Declared}
 use Rattle.sb_lexicon.specs.Words.{Said, Nothing, Words, Whole, Specifiers, unspecified, said_after, type_specified}
 use Rattle.sb_expr.specs.Readers.{Parts, ExprReader}
 use Rattle.sb_lexicon.specs.Tokens.{unexpected, is_open, is_close, begins_expr}

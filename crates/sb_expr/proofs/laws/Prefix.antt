@@ -19,7 +19,7 @@ use Rattle.sb_lexicon.specs.declared.operators.Suffix.TheVariants as suffix
 use Rattle.sb_parse.specs.Descent.{choose_second}
 use Rattle.sb_expr.specs.Expression.{Postfix, Prefix, Infix, IsExpr, is_operand, is_grouped, is_primary, is_indexed, is_called, is_member, is_stepped, is_postfix, is_prefixed, is_stepping, is_size_of_expr, is_size_of_type}
 use Rattle.sb_lexicon.specs.Lexicon.{Lexicon, begins_type, prefix_at, step_at, suffix_at, prefix_of, step_of, suffix_of}
-use Rattle.sb_expr.specs.Pieces.{Declared, type_of}
+use Rattle.sb_operand.specs.Pieces.{Declared, type_of}
 use Rattle.sb_expr.specs.Readers.{Parts, prefixed, stepping, size_of_type, no_room_inside, size_of_expr, size_of_either, size_of, prefix_expr, postfix}
 use Rattle.sb_lexicon.specs.Tokens.{unexpected, too_deep, compound_literal, is_zero, is_open, is_open_brace, is_prefix, is_step, is_size_of, is_suffix, begins_expr}
 use Rattle.sb_expr.specs.Reads.{FitsExpr}

@@ -6,7 +6,7 @@ use Rattle.sb_parse.specs.Lawful.{Lawful, Follows, Joined, Mapped}
 use Rattle.sb_parse.proofs.Joining.{from_there, via}
 use Rattle.sb_tree.specs.Trees.{TypeTree, depth_of_type}
 use Rattle.sb_lexicon.specs.Lexicon.{Lexicon, is_type_word}
-use Rattle.sb_expr.specs.Pieces.{Piece, Declared, type_of, typed, depth_over}
+use Rattle.sb_operand.specs.Pieces.{Piece, Declared, type_of, typed, depth_over}
 use Rattle.sb_expr.specs.Expression.{Assignment, IsType, is_type}
 use Rattle.sb_expr.specs.Readers.{Parts, declarators, size_at, type_named}
 use Rattle.sb_lexicon.specs.SpecifierReaders.{base_type}
@@ -14,7 +14,7 @@ use Rattle.sb_lexicon.specs.Tokens.{is_zero}
 use Rattle.sb_expr.specs.Reads.{FitsType}
 use Rattle.sb_expr.proofs.tokens.More.{LawfulParts, more_abstract, more_type, is_empty}
 use Rattle.sb_parse.proofs.Ways.{first_fails, second_fails, following_where, follows_map}
-use Rattle.sb_expr.proofs.Putting.{typed_depth, over_count, over_inner, over_fits}
+use Rattle.sb_operand.proofs.Putting.{typed_depth, over_count, over_inner, over_fits}
 use Rattle.sb_lexicon.proofs.laws.Specifiers.{FitsBase, base_depth, base_law}
 use Rattle.sb_expr.proofs.laws.Declarators.{FitsPieces, no_pieces, pieces_unworded, declarators_law}
 

@@ -10,7 +10,7 @@ use Rattle.sb_sign.specs.Signs as sign
 use Rattle.sb_lexicon.specs.declared.words.TypeWords.{TypeWords}
 use Rattle.sb_parse.specs.Descent.{descent}
 use Rattle.sb_lexicon.specs.Lexicon.{Lexicon, is_keyword, is_type_name, is_type_keyword}
-use Rattle.sb_expr.specs.Pieces.{Declared}
+use Rattle.sb_operand.specs.Pieces.{Declared}
 use Rattle.sb_lexicon.specs.Words.{Words, Specifiers, unspecified, saying, put, no_words, worded}
 use Rattle.sb_expr.specs.Expression.{Level, Assignment, IsExpr, IsType, is_type, is_direct, is_nothing_more}
 use Rattle.sb_lexicon.specs.Specifiers.{IsSpecifier, is_word, is_constant, is_restricted, is_structure, is_enumeration, is_defined, no_specifiers, more_specifiers}

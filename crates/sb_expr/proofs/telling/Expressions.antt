@@ -15,7 +15,7 @@ use Rattle.sb_tree.specs.Trees.{ExprTree, depth_of_expr}
 use Rattle.sb_lexicon.specs.declared.operators.Suffix.{Suffix}
 use Rattle.sb_lexicon.specs.declared.operators.Suffix.TheVariants as suffix
 use Rattle.sb_lexicon.specs.Lexicon.{Lexicon, name_of, operand_of, begins_type, prefix_of, step_of, suffix_of, operator_of, assignment_of}
-use Rattle.sb_expr.specs.Pieces.{type_of}
+use Rattle.sb_operand.specs.Pieces.{type_of}
 use Rattle.sb_expr.specs.Expression as grammar
 use Rattle.sb_expr.specs.Expression.{Level, Primary, Postfix, Prefix, Infix, Conditional, Assignment, Sequence, IsExpr, is_operand, is_grouped, is_primary, is_indexed, is_called, is_member, is_stepped, is_postfix, is_prefixed, is_stepping, is_size_of_expr, is_size_of_type, is_uncast, is_cast, is_tighter, is_binary, is_infix, is_conditional, is_chosen, is_assignment, is_assigned, is_sequence, AreArguments, no_arguments, AreSome, one_argument, more_arguments, IsType}
 use Rattle.sb_expr.specs.Readers.{is_unary, assigns, Parts, within, grouped, primary, next_argument, some_arguments, arguments, indexed, called, member, suffixed_by, suffixed, postfix, prefixed, stepping, size_of_type, no_room_inside, size_of_expr, size_of_either, size_of, prefix_expr, cast, cast_expr, operated, infix_at, branches, conditional, assigned, assignment, followed, sequence, at_level, begins_at}

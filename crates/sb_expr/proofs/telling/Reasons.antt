@@ -13,7 +13,7 @@ use Rattle.sb_tree.specs.declared.syntax.TypeName.{TypeName}
 use Rattle.sb_tree.specs.Trees.{depth_of_expr, depth_of_type}
 use Rattle.sb_expr.specs.Expression.{Level, Sequence, IsExpr, IsType}
 use Rattle.sb_lexicon.specs.Lexicon.{Lexicon}
-use Rattle.sb_expr.specs.Pieces.{type_of}
+use Rattle.sb_operand.specs.Pieces.{type_of}
 use Rattle.sb_expr.specs.Readers.{expr_reader, type_reader}
 use Rattle.sb_lexicon.specs.Tokens.{unexpected, too_deep, lacks}
 use Rattle.sb_expr.specs.Reads.{IsExprRead, IsTypeRead}

@@ -10,11 +10,12 @@ use Rattle.sb_tree.specs.Trees as tree
 use Rattle.sb_tree.specs.Trees.{ExprTree, TypeTree, depth_of_type}
 use Rattle.sb_parse.specs.Descent.{descent}
 use Rattle.sb_lexicon.specs.Lexicon.{Lexicon, is_keyword, is_type_name, is_type_word}
-use Rattle.sb_expr.specs.Pieces.{Piece, Pointed, Arrayed, Grouped, constant_if, points}
+use Rattle.sb_operand.specs.Pieces.{Piece, Pointed, Arrayed, Grouped, constant_if, points}
 use Rattle.sb_lexicon.specs.Words.{Said, Nothing, Specifiers, unspecified, constantly, is_nothing, type_specified}
 use Rattle.sb_expr.specs.Expression.{Assignment, IsExpr, AreQualifiers, no_qualifiers, constant, restricted, IsType, is_type, IsAbstract, is_direct, is_pointer, IsDirect, is_nothing_more, is_in_parentheses, is_array, IsSize, no_size, a_size}
 use Rattle.sb_lexicon.specs.Specifiers.{IsSpecifier, is_word, is_constant, is_restricted, is_structure, is_enumeration, is_defined, AreSpecifiers, no_specifiers, more_specifiers}
-use Rattle.sb_expr.specs.Readers.{PieceReader, begins_abstract, begins_parameters, calls, one_if, qualifier, pointed, inside, in_parentheses, sized, arrayed, direct, abstract_declarator, no_declarator, declarators, Parts, size_at, type_named}
+use Rattle.sb_operand.specs.Readers.{PieceReader, begins_abstract, begins_parameters, calls, one_if, no_declarator}
+use Rattle.sb_expr.specs.Readers.{qualifier, pointed, inside, in_parentheses, sized, arrayed, direct, abstract_declarator, declarators, Parts, size_at, type_named}
 use Rattle.sb_lexicon.specs.SpecifierReaders.{is_floating, is_union, is_complex, may_be_floating, word_after, structure_named, enumeration_named, defined_by, is_tag_word, names_type, specified, keyword_specifiers, defined, completed, base_type}
 use Rattle.sb_lexicon.specs.Tokens.{unexpected, is_zero, is_open, is_close, is_open_bracket, is_close_bracket, is_star, is_qualifier}
 use Rattle.sb_parse.proofs.Ways.{Completed, first_fails, or_first, or_second, and_first, and_second}

@@ -11,8 +11,8 @@ use Rattle.sb_sign.specs.Signs as sign
 use Rattle.sb_tree.specs.Trees.{ExprTree}
 use Rattle.sb_lexicon.specs.Lexicon.{Lexicon, is_mark, by_mark, prefix_at, step_at, assignment_at, of_rank, suffix_at, assignment_of}
 use Rattle.sb_expr.specs.Expression.{Level, Assignment, IsExpr, is_operand, is_grouped, is_primary, is_indexed, is_called, is_member, is_stepped, is_postfix, is_prefixed, is_stepping, is_size_of_expr, is_size_of_type, is_uncast, is_cast, is_tighter, is_binary, is_infix, is_conditional, is_chosen, is_assignment, is_assigned, is_sequence}
-use Rattle.sb_expr.specs.Pieces.{Piece, points}
-use Rattle.sb_expr.specs.Readers.{begins_abstract, calls}
+use Rattle.sb_operand.specs.Pieces.{Piece, points}
+use Rattle.sb_operand.specs.Readers.{begins_abstract, calls}
 use Rattle.sb_lexicon.specs.Tokens.{is_close, is_close_bracket, is_open, is_open_bracket, is_suffix, is_open_brace, is_qualifier}
 use Rattle.sb_expr.proofs.tokens.More.{more, more_infix, more_conditional, more_abstract, ends_unary, ends_in_type, behind_pointers, is_empty}
 use Rattle.sb_parse.proofs.Ways.{and_fails}

@@ -9,8 +9,9 @@ use Rattle.sb_tree.specs.Trees as tree
 use Rattle.sb_tree.specs.Trees.{ExprTree}
 use Rattle.sb_expr.specs.Expression.{Level, Primary, Postfix, Prefix, Infix, Conditional, Assignment, Sequence}
 use Rattle.sb_lexicon.specs.Lexicon.{Lexicon, is_type_word, assignment_of}
-use Rattle.sb_expr.specs.Pieces.{Piece, Constant, Pointed, Declared}
-use Rattle.sb_expr.specs.Readers.{Parts, begins_abstract, calls, is_unary}
+use Rattle.sb_operand.specs.Pieces.{Piece, Constant, Pointed, Declared}
+use Rattle.sb_operand.specs.Readers.{begins_abstract, calls}
+use Rattle.sb_expr.specs.Readers.{Parts, is_unary}
 use Rattle.sb_lexicon.specs.Tokens.{is_suffix, is_operator, is_question, is_comma, is_open_brace, is_open_bracket, is_qualifier}
 use Rattle.sb_expr.specs.Reads.{FitsExpr, FitsType}
 

@@ -10,7 +10,7 @@ use Rattle.sb_tree.specs.Trees.{TypeTree, depth_of_type}
 use Rattle.sb_parse.specs.Descent.{descent}
 use Rattle.sb_expr.specs.Expression.{Level, Assignment}
 use Rattle.sb_lexicon.specs.Lexicon.{Lexicon, is_keyword, is_type_name, is_type_keyword, is_type_word}
-use Rattle.sb_expr.specs.Pieces.{Declared}
+use Rattle.sb_operand.specs.Pieces.{Declared}
 use Rattle.sb_lexicon.specs.Words.{Specifiers, unspecified, constantly, type_specified}
 use Rattle.sb_expr.specs.Readers.{declarators, Parts, size_at, type_named, begins_at, no_type, parts}
 use Rattle.sb_lexicon.specs.SpecifierReaders.{word_after, structure_named, enumeration_named, defined_by, specified, keyword_specifiers, defined, completed, base_type}

@@ -5,9 +5,10 @@ use Rattle.sb_parse.specs.Parser.{Parser, done, stop, at_next, ◌>>=◌, pure, 
 use Rattle.sb_tree.specs.Trees.{ExprTree, depth_of_type}
 use Rattle.sb_parse.specs.Descent.{descent}
 use Rattle.sb_lexicon.specs.Lexicon.{Lexicon, is_type_word}
-use Rattle.sb_expr.specs.Pieces.{Piece}
+use Rattle.sb_operand.specs.Pieces.{Piece}
 use Rattle.sb_lexicon.specs.Words.{Specifiers, unspecified, type_specified}
-use Rattle.sb_expr.specs.Readers.{PieceReader, begins_abstract, qualifier, pointed, inside, in_parentheses, sized, arrayed, direct, abstract_declarator, no_declarator, declarators, Parts, size_at, type_named}
+use Rattle.sb_operand.specs.Readers.{PieceReader, begins_abstract, no_declarator}
+use Rattle.sb_expr.specs.Readers.{qualifier, pointed, inside, in_parentheses, sized, arrayed, direct, abstract_declarator, declarators, Parts, size_at, type_named}
 use Rattle.sb_lexicon.specs.SpecifierReaders.{specified, names_type, keyword_specifiers, defined, completed, base_type}
 use Rattle.sb_lexicon.specs.Tokens.{unexpected, too_deep, is_zero, is_open, is_open_bracket, is_star, is_qualifier}
 use Rattle.sb_parse.proofs.Ways.{first_fails, second_fails}

@@ -7,6 +7,9 @@ decreases-note_within l = 100 * l.left
 abbrev pub decreases-inner : goal.decreases-inner
 decreases-inner l = 100 * l.below + 10
 
+abbrev pub decreases-one_note : goal.decreases-one_note
+decreases-one_note l = 100 * l.below + 20
+
 abbrev pub decreases-guarded : goal.decreases-guarded
 decreases-guarded l = 100 * l.below + 20
 

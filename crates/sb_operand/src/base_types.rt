@@ -1,10 +1,10 @@
 //! The type that specifiers name (C99 6.7.2, 6.7.3, 6.7.7).
 ghost use Rattle.std.specs.Prelude.{◌≡◌, ◌≤◌, ◌+◌, IfOk, IfSome};
 ghost use Rattle.std.specs.Option.{option_map};
-ghost use Rattle.sb_expr.specs.Meaning.{ReadsBase};
+ghost use Rattle.sb_operand.specs.Meaning.{ReadsBase};
 ghost use Rattle.sb_lexicon.specs.Meaning.{meant, plain_said, plain_specifiers};
 ghost use Rattle.sb_lexicon.specs.Parts.{completed};
-ghost use Rattle.sb_expr.specs.Readers as reader;
+ghost use Rattle.sb_operand.specs.Readers as reader;
 ghost use Rattle.sb_lexicon.specs.SpecifierReaders as spec;
 ghost use Rattle.sb_lexicon.specs.Tokens.{is_zero};
 ghost use Rattle.sb_lexicon.specs.Words as words;
@@ -18,10 +18,10 @@ use std::alloc::Global;
 
 /// The type of specifiers, how deep it is, and the tokens after it.
 #[derive(Drop)]
-pub(crate) struct Based<'a> {
-    pub(crate) tree: Box<TypeName>,
-    pub(crate) depth: u32,
-    pub(crate) rest: &'a [Token],
+pub struct Based<'a> {
+    pub tree: Box<TypeName>,
+    pub depth: u32,
+    pub rest: &'a [Token],
 }
 
 /// The type that specifiers name without `const`.
@@ -44,7 +44,8 @@ fn completed<'a>(
     specifiers: Specifiers,
     rest: &'a [Token],
 ) -> Result<Based<'a>, ReadFault>
-    ensures read { ReadsBase (completed (words.type_specified (plain_specifiers specifiers)) rest.now) result }
+    ensures read { ReadsBase (completed (words.type_specified (plain_specifiers specifiers))
+        rest.now) result }
     ensures depth { IfOk result (λ b. b.depth ≡ 1 + reader.one_if specifiers.constant) }
 {
     let Some(tree) = type_said(specifiers.said) else {
@@ -67,13 +68,14 @@ fn completed<'a>(
 
 /// The type of the specifiers with which tokens begin. `below`: how deep a type may be inside another.
 #[tactic(auto, unfolding(sb_lexicon::specs::SpecifierReaders::base_type, sb_lexicon::specs::SpecifierReaders::keyword_specifiers))]
-pub(crate) fn base_type<'a>(
+pub fn base_type<'a>(
     alloc: Global,
     lexicon: &Lexicon,
     below: u32,
     tokens: &'a [Token],
 ) -> Result<Based<'a>, ReadFault>
-    ensures read { ReadsBase (spec.base_type (meant lexicon.now) (is_zero below) tokens.now) result }
+    ensures read { ReadsBase (spec.base_type (meant lexicon.now) (is_zero below) tokens.now)
+        result }
     ensures depth { IfOk result (λ b. b.depth ≤ below + 1) }
 {
     let none = Specifiers {

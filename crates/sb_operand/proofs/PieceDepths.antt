@@ -1,10 +1,10 @@
 -- How deep pieces make a type.
 use Rattle.std.proofs.Common.{◌≡◌, ℕ, suc, ◌+◌, List, [], ◌∷◌, ◌++◌, length, max, refl, ap, sym, ◌∙◌, arith}
 use Rattle.sb_tree.specs.Trees.{TypeTree, depth_of_type}
-use Rattle.sb_expr.specs.declared.pieces.Piece as declared
-use Rattle.sb_expr.specs.Meaning.{plain_piece, plain_pieces, depth_of_piece}
-use Rattle.sb_expr.specs.Pieces.{Piece, Constant, Pointed, Arrayed, Called, Grouped, typed, put_on, depth_with, depth_over}
-use Rattle.sb_expr.proofs.Lists.{one_more_piece, count_of_pieces}
+use Rattle.sb_operand.specs.declared.pieces.Piece as declared
+use Rattle.sb_operand.specs.Meaning.{plain_piece, plain_pieces, depth_of_piece}
+use Rattle.sb_operand.specs.Pieces.{Piece, Constant, Pointed, Arrayed, Called, Grouped, typed, put_on, depth_with, depth_over}
+use Rattle.sb_operand.proofs.Lists.{one_more_piece, count_of_pieces}
 
 with_one : (p : Piece) (d : ℕ) → depth_with p d ≡ suc (max d (depth_of_piece p))
 with_one Constant d = omega arith

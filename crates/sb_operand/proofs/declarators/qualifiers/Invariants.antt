@@ -1,9 +1,9 @@
 use Rattle.std.proofs.Common.{◌≡◌, ◌-◌, ◌<◌, length, true, false}
 use Rattle.sb_parse.specs.Parser.{loop}
 use Rattle.sb_lexicon.specs.Meaning.{meant}
-use Rattle.sb_expr.specs.Parts.{qualifier}
+use Rattle.sb_operand.specs.Readers.{qualifier}
 use Rattle.sb_lexicon.specs.Tokens.{is_qualifier}
-use Rattle.sb_expr.proofs.declarators.qualifiers.Given as goal
+use Rattle.sb_operand.proofs.declarators.qualifiers.Given as goal
 
 abbrev pub invariant-loop-turn : goal.invariant-loop-turn
 invariant-loop-turn l =

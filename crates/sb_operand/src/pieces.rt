@@ -1,7 +1,7 @@
 //! What a declarator makes of a type, a piece at a time (C99 6.7.5, 6.7.6).
 ghost use Rattle.std.specs.Prelude.{◌≡◌, IfOk};
-ghost use Rattle.sb_expr.specs.Meaning.{plain_piece, plain_pieces};
-ghost use Rattle.sb_expr.specs.Pieces as spec;
+ghost use Rattle.sb_operand.specs.Meaning.{plain_piece, plain_pieces};
+ghost use Rattle.sb_operand.specs.Pieces as spec;
 ghost use Rattle.sb_tree.specs.Plain.{plain_type};
 
 use sb_base::Place;
@@ -24,7 +24,8 @@ pub enum Piece {
 /// A type with one piece put on it.
 #[tactic(auto, unfolding(sb_tree::specs::Plain::plain_type, sb_tree::specs::Plain::plain_expr, sb_tree::specs::Plain::plain_decl))]
 fn put_on(alloc: Global, piece: Piece, of: Box<TypeName>) -> Result<Box<TypeName>, AllocError>
-    ensures { IfOk result (λ t. plain_type t.value ≡ spec.put_on (plain_piece piece) (plain_type of.value)) }
+    ensures { IfOk result
+        (λ t. plain_type t.value ≡ spec.put_on (plain_piece piece) (plain_type of.value)) }
 {
     let node = match piece {
         Piece::Constant => TypeName::Const(of),
@@ -46,7 +47,8 @@ pub fn typed(
     base: Box<TypeName>,
     pieces: Vec<Piece>,
 ) -> Result<Box<TypeName>, AllocError>
-    ensures { IfOk result (λ t. plain_type t.value ≡ spec.typed (plain_type base.value) (plain_pieces pieces.items)) }
+    ensures { IfOk result
+        (λ t. plain_type t.value ≡ spec.typed (plain_type base.value) (plain_pieces pieces.items)) }
 {
     let mut left = pieces;
     let mut tree = base;

@@ -4,8 +4,8 @@ use Rattle.std.proofs.lemmas.List.{reverse-append, length-reverse}
 use Rattle.sb_tree.specs.declared.syntax.Expr.{Expr}
 use Rattle.sb_tree.specs.Plain.{plain_expr, plain_exprs}
 use Rattle.sb_tree.specs.Trees.{ExprTree, depth_of_expr}
-use Rattle.sb_expr.specs.declared.pieces.Piece.{Piece}
-use Rattle.sb_expr.specs.Meaning.{plain_piece, plain_pieces, depth_of_list}
+use Rattle.sb_operand.specs.declared.pieces.Piece.{Piece}
+use Rattle.sb_operand.specs.Meaning.{plain_piece, plain_pieces, depth_of_list}
 
 pub more_exprs : (es : List Expr) (e : Expr) → plain_exprs (es ++ (e ∷ [])) ≡ plain_exprs es ++ (plain_expr e ∷ [])
 more_exprs [] e = refl

@@ -1,7 +1,7 @@
 use Rattle.std.proofs.Common.{sym, length, false}
 use Rattle.std.proofs.lemmas.Result.{err_from_is_err_and}
 use Rattle.sb_lexicon.proofs.Loops.{loop_ends, loop_over, loop_goes, loop_faults}
-use Rattle.sb_expr.proofs.declarators.qualifiers.Goals as goal
+use Rattle.sb_operand.proofs.declarators.qualifiers.Goals as goal
 
 pub returns-then-not-is_qualifier_next-clause-read : goal.returns-then-not-is_qualifier_next-clause-read
 returns-then-not-is_qualifier_next-clause-read c =

@@ -3,7 +3,7 @@ ghost use Rattle.std.specs.Prelude.{◌≡◌, is_some, IfOk, IfSome};
 ghost use Rattle.std.specs.Option.{option_map};
 ghost use Rattle.sb_parse.specs.Parser.{at_next, taken};
 ghost use Rattle.sb_lexicon.specs.Lexicon as spec;
-ghost use Rattle.sb_expr.specs.Meaning.{Reads};
+ghost use Rattle.sb_operand.specs.Meaning.{Reads};
 ghost use Rattle.sb_lexicon.specs.Meaning.{meant};
 ghost use Rattle.sb_lexicon.specs.Tokens as reader;
 ghost use Rattle.sb_tree.specs.Plain.{plain_expr};
@@ -27,7 +27,9 @@ fn is_returned(lexicon: &Lexicon, token: &Token) -> bool
 
 /// The operand that an identifier is.
 fn named_operand(lexicon: &Lexicon, token: &Token) -> Option<Expr>
-    ensures operand { option_map plain_expr result ≡ spec.named_operand (meant lexicon.now) token.now.place (spec.name_of (meant lexicon.now) token.now) }
+    ensures operand { option_map plain_expr result
+        ≡ spec.named_operand (meant lexicon.now) token.now.place
+        (spec.name_of (meant lexicon.now) token.now) }
     ensures flat { IfSome result (λ e. depth_of_expr (plain_expr e) ≡ 1) }
 {
     let name = name_of(lexicon, token)?;
@@ -81,12 +83,13 @@ pub fn is_expr_next(lexicon: &Lexicon, tokens: &[Token]) -> bool
 }
 
 /// The next token, which has to be an operand.
-pub(crate) fn take_operand<'a>(
+pub fn take_operand<'a>(
     alloc: Global,
     lexicon: &Lexicon,
     tokens: &'a [Token],
 ) -> Result<Found<'a>, ReadFault>
-    ensures read { Reads (taken reader.unexpected (spec.operand_of (meant lexicon.now)) tokens.now) result }
+    ensures read { Reads (taken reader.unexpected (spec.operand_of (meant lexicon.now)) tokens.now)
+        result }
     ensures depth { IfOk result (λ f. f.depth ≡ 1) }
 {
     let Some((token, rest)) = tokens.split_first() else {

@@ -2,7 +2,7 @@
 use Rattle.std.proofs.Common.{◌≡◌, ◌≤◌, ◌+◌, ◌-◌, ℕ, suc, max, List, [], ◌∷◌, length, refl, ap, ◌∙◌, arith}
 use Rattle.std.proofs.Math.Nat.{le-max_left, le-max_right, max-le}
 use Rattle.sb_tree.specs.Trees.{TypeTree, depth_of_optional_expr, depth_of_decls, depth_of_type}
-use Rattle.sb_expr.specs.Pieces.{Piece, Constant, Pointed, Arrayed, Called, Grouped, put_on, typed, depth_with, depth_over}
+use Rattle.sb_operand.specs.Pieces.{Piece, Constant, Pointed, Arrayed, Called, Grouped, put_on, typed, depth_with, depth_over}
 
 -- how deep what stands inside a piece is
 abbrev pub inner : Piece → ℕ

@@ -1,8 +1,8 @@
 use Rattle.std.proofs.Common.{◌≡◌, length}
 use Rattle.sb_tree.specs.Plain.{plain_type}
-use Rattle.sb_expr.specs.Meaning.{plain_pieces}
-use Rattle.sb_expr.specs.Pieces as spec
-use Rattle.sb_expr.proofs.pieces.typed.Given as goal
+use Rattle.sb_operand.specs.Meaning.{plain_pieces}
+use Rattle.sb_operand.specs.Pieces as spec
+use Rattle.sb_operand.proofs.pieces.typed.Given as goal
 
 abbrev pub decreases-loop-piece : goal.decreases-loop-piece
 decreases-loop-piece l = length l.left.items
