@@ -1,8 +1,5 @@
-pub mod Beginnings
 pub mod Calls
 pub mod Declarators
-pub mod Fresh
-pub mod Heads
 pub mod Members
 pub mod Parameter
 pub mod Parameters

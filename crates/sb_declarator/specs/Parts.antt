@@ -3,21 +3,17 @@ use Rattle.std.specs.Prelude.{ℕ, suc, ◌+◌, ◌-◌, false, List, [], ◌�
 use Rattle.sb_base.specs.declared.interning.Name.{Name}
 use Rattle.sb_base.specs.declared.refusals.Place.{Place}
 use Rattle.sb_base.specs.declared.tokens.Token.{Token}
-use Rattle.sb_parse.specs.Parser.{Outcome, Parser, done, stop, ◌>>=◌, pure, refuse, token, taken, choose, guard, looped}
+use Rattle.sb_parse.specs.Parser.{Parser, ◌>>=◌, pure, refuse, token, taken, choose, guard, looped}
 use Rattle.sb_sign.specs.declared.sign.Keyword.TheVariants as keyword
-use Rattle.sb_tree.specs.declared.syntax.Storage.TheVariants as storage
-use Rattle.sb_tree.specs.Plain.{decl_list, note_list}
+use Rattle.sb_tree.specs.Plain.{decl_list}
 use Rattle.sb_tree.specs.Trees as tree
 use Rattle.sb_tree.specs.Trees.{TypeTree, DeclTree, NoteTree, depth_of_type}
 use Rattle.sb_lexicon.specs.Lexicon.{is_keyword}
 use Rattle.sb_lexicon.specs.Tokens.{unexpected, too_deep, is_comma, is_colon, is_open_brace}
-use Rattle.sb_expr.specs.Pieces.{typed}
 use Rattle.sb_lexicon.specs.Words.{Whole}
-use Rattle.sb_sal.specs.declared.bearer.Bearer.{Bearer}
-use Rattle.sb_sal.specs.Readers.{notes_reader}
-use Rattle.sb_sal.specs.Spellings.{may_stand}
 use Rattle.sb_specifier.specs.Declaration.{nowhere}
-use Rattle.sb_specifier.specs.Readers.{Declarator, Declarations, bit_field, is_close_brace, is_semicolon, name_at, name_in, place_in}
+use Rattle.sb_specifier.specs.Readers.{Declarations, bit_field, is_close_brace, is_semicolon, name_at}
+use Rattle.sb_derivation.specs.Parts.{simple_decl}
 use Rattle.sb_declarator.specs.Readers.{parts, declarators}
 use Rattle.sb_specifier.specs.Specified.{Specified, reading, saying, scoped, one_if}
 
@@ -35,28 +31,16 @@ tagged_structure texts below s = token unexpected (is_keyword (reading texts s.t
     (taken unexpected (name_at (reading texts s.types)) >>= (λ n. choose (is_open_brace (reading texts s.types)) (structure texts below s (Some n.0) n.1)
     (pure (saying (Whole (tree.Struct (Some n.0) tree.Undeclared n.1)) s)))))
 
--- ---- declarations
-
--- what a reader of a list comes to; nothing where it stops
-abbrev pub list_in : {A : Type 0} → Outcome Token (List A) → List A
-list_in (done a rest) = a
-list_in (stop n left) = []
-
--- the annotations with which tokens begin
-abbrev pub notes_at : List (List ℕ) → List Name → Bearer → ℕ → List Token → List NoteTree
-notes_at texts types bearer below ts = list_in (notes_reader (reading texts types) below (may_stand (reading texts types) bearer) ts)
-
 -- ---- members of a structure
-
--- a member or a parameter
-abbrev pub simple_decl : List NoteTree → TypeTree → Declarator → Place → DeclTree
-simple_decl notes base d place = tree.Decl (note_list notes) storage.Plain (typed base d.pieces) (name_in d.name) (place_in place d.name) tree.NoInit tree.NoStmt
 
 abbrev pub member_declarator : List (List ℕ) → ℕ → List NoteTree → List Name → TypeTree → Parser Token DeclTree
 member_declarator texts below notes types base = choose (is_colon (reading texts types)) (refuse bit_field)
     (declarators (reading texts types) false false below (parts texts below) (below - depth_of_type base) 0 >>= (λ d. choose (is_colon (reading texts types)) (refuse bit_field) (pure (simple_decl notes base d nowhere))))
 
 -- `later`: the type of a later declarator
+abbrev pub later_member : List (List ℕ) → ℕ → List NoteTree → List Name → TypeTree → Parser Token DeclTree
+later_member texts below notes types later = token unexpected (is_comma (reading texts types)) >>= (λ t. member_declarator texts below notes types later)
+
 abbrev pub next_member : List (List ℕ) → ℕ → List NoteTree → List Name → TypeTree → List DeclTree → Parser Token (List DeclTree)
 next_member texts below notes types later ds = token unexpected (is_comma (reading texts types)) >>= (λ t. member_declarator texts below notes types later >>= (λ d. pure (ds ++ (d ∷ []))))
 

@@ -1,5 +1,5 @@
 -- The readers of declarators, of the members of structures and of parameters, as functions on the tokens that are left.
-use Rattle.std.specs.Prelude.{ℕ, zero, suc, ◌+◌, ◌-◌, Bool, true, false, ◌&&◌, ◌||◌, not, List, [], ◌∷◌, ◌++◌, length, nat_lt, Some, None, if◌then◌else◌}
+use Rattle.std.specs.Prelude.{ℕ, zero, suc, ◌-◌, Bool, true, false, ◌&&◌, ◌||◌, not, List, [], ◌∷◌, ◌++◌, length, nat_lt, Some, None, if◌then◌else◌}
 use Rattle.std.specs.Option.{option_map_or}
 use Rattle.sb_base.specs.declared.interning.Name.{Name}
 use Rattle.sb_base.specs.declared.refusals.Place.{Place}
@@ -14,9 +14,10 @@ use Rattle.sb_tree.specs.Trees.{TypeTree, OptionalExpr, DeclTree, NoteTree, dept
 use Rattle.sb_parse.specs.Descent.{descent, choose_second}
 use Rattle.sb_expr.specs.Expression.{Assignment}
 use Rattle.sb_lexicon.specs.Lexicon.{Lexicon, is_mark, is_keyword, is_type_name}
-use Rattle.sb_expr.specs.Pieces.{Pointed, Arrayed, Called, Grouped, typed, constant_if, points}
+use Rattle.sb_operand.specs.Pieces.{Pointed, Arrayed, Called, Grouped, typed, constant_if, points}
 use Rattle.sb_lexicon.specs.Tokens as expr
-use Rattle.sb_expr.specs.Readers.{begins_abstract, expr_reader}
+use Rattle.sb_operand.specs.Readers.{begins_abstract}
+use Rattle.sb_expr.specs.Readers.{expr_reader}
 use Rattle.sb_lexicon.specs.Tokens.{unexpected, too_deep, too_many_parameters, is_zero, is_open, is_close, is_open_bracket, is_close_bracket, is_comma, is_colon, is_star, is_qualifier}
 use Rattle.sb_lexicon.specs.Outcomes.{nowhere}
 use Rattle.sb_sal.specs.declared.bearer.Bearer.TheVariants as bearer

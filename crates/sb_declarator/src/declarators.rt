@@ -1,24 +1,24 @@
 //! Declarators (C99 6.7.5).
 ghost use Rattle.std.specs.Prelude.{◌≡◌, ◌≤◌, ◌<◌, true, IfOk};
 ghost use Rattle.sb_parse.specs.Parser.{looped};
-ghost use Rattle.sb_expr.specs.Meaning.{plain_pieces};
+ghost use Rattle.sb_operand.specs.Meaning.{plain_pieces};
 ghost use Rattle.sb_lexicon.specs.Meaning.{meant};
-ghost use Rattle.sb_declarator.specs.Declarators.{plain_declarator, IsDeep, IsSized, ReadsDeclarator, roomy};
+ghost use Rattle.sb_derivation.specs.Declarators.{plain_declarator, is_suffix, IsDeep, IsSized, ReadsDeclarator};
+ghost use Rattle.sb_declarator.specs.Declarators.{roomy};
 ghost use Rattle.sb_declarator.specs.Declarators as part;
 ghost use Rattle.sb_declarator.specs.Readers as spec;
 ghost use Rattle.sb_declarator.specs.Readers.{parts};
 ghost use Rattle.sb_specifier.specs.Specified as specified;
 
-use crate::declarator::{
-    Declarator, is_bare, is_function, is_inner_next, is_outermost, is_parameter_next,
-    is_suffix_next, name_or_none,
-};
 use crate::parameters::parameters;
 use sb_base::Token;
-use sb_expr::{Piece, points, qualifiers, room_behind};
+use sb_derivation::{
+    Declarator, array_piece, is_bare, is_function, is_inner_next, is_outermost, is_parameter_next,
+    is_suffix_next, name_or_none,
+};
 use sb_lexicon::{Feature, Lexicon, Read, ReadFault, is_mark_next, take_mark};
+use sb_operand::{Piece, points, qualifiers, room_behind};
 use sb_sign::Mark;
-use sb_specifier::array_size;
 use std::alloc::Global;
 
 // ---- readers
@@ -38,7 +38,9 @@ fn inside<'a>(
     requires shallow { below < 200 }
     requires room { room ≤ below }
     requires some { 1 ≤ room }
-    ensures read { ReadsDeclarator lexicon.now.types.now (roomy spec.inside (meant lexicon.now) functions may_lack below room opening.entry.value opening.entry.rest.now) result }
+    ensures read { ReadsDeclarator lexicon.now.types.now
+        (roomy spec.inside (meant lexicon.now) functions may_lack below room opening.entry.value
+        opening.entry.rest.now) result }
     ensures bounds { IfOk result (λ r. IsSized below room r.value) }
 {
     let inner = declarator_within(
@@ -72,7 +74,9 @@ fn in_parentheses<'a>(
     requires shallow { below < 200 }
     requires room { room ≤ below }
     requires some { 1 ≤ room }
-    ensures read { ReadsDeclarator lexicon.now.types.now (roomy spec.in_parentheses (meant lexicon.now) functions may_lack below room tokens.now) result }
+    ensures read { ReadsDeclarator lexicon.now.types.now
+        (roomy spec.in_parentheses (meant lexicon.now) functions may_lack below room tokens.now)
+        result }
     ensures bounds { IfOk result (λ r. IsSized below room r.value) }
 {
     let open = take_mark(lexicon, Mark::OpenParenthesis, tokens)?;
@@ -102,7 +106,8 @@ pub(crate) fn first<'a>(
 ) -> Result<Read<'a, Declarator>, ReadFault>
     requires shallow { below < 200 }
     requires room { room ≤ below }
-    ensures read { ReadsDeclarator lexicon.now.types.now (roomy spec.first (meant lexicon.now) functions may_lack below room tokens.now) result }
+    ensures read { ReadsDeclarator lexicon.now.types.now
+        (roomy spec.first (meant lexicon.now) functions may_lack below room tokens.now) result }
     ensures bounds { IfOk result (λ r. IsSized below room r.value) }
 {
     if !is_mark_next(lexicon, Mark::OpenParenthesis, tokens) {
@@ -115,7 +120,7 @@ pub(crate) fn first<'a>(
 }
 
 /// One more array.
-#[tactic(auto, unfolding(crate::specs::Readers::arrayed, crate::specs::Readers::sized, crate::specs::Readers::size, crate::specs::Readers::size_word, crate::specs::Readers::outermost_size), using(sb_expr::proofs::Lists::count_of_pieces))]
+#[tactic(auto, unfolding(crate::specs::Readers::arrayed, crate::specs::Readers::sized, crate::specs::Readers::size, crate::specs::Readers::size_word, crate::specs::Readers::outermost_size), using(sb_operand::proofs::Lists::count_of_pieces))]
 fn arrayed<'a>(
     alloc: Global,
     lexicon: &Lexicon,
@@ -129,27 +134,26 @@ fn arrayed<'a>(
     requires room { room ≤ below }
     requires known { IsDeep so_far.value }
     requires bounds { IsSized below room so_far.value }
-    ensures read { ReadsDeclarator lexicon.now.types.now (roomy spec.arrayed (meant lexicon.now) functions may_lack below room (plain_declarator lexicon.now.types.now so_far.entry.value) so_far.entry.rest.now) result }
+    ensures read { ReadsDeclarator lexicon.now.types.now
+        (roomy spec.arrayed (meant lexicon.now) functions may_lack below room
+        (plain_declarator lexicon.now.types.now so_far.entry.value) so_far.entry.rest.now) result }
     ensures bounds { IfOk result (λ r. IsSized below room r.value) }
 {
     if so_far.value.pieces.len() >= room as usize {
         return Err(ReadFault::too_deep(so_far.rest));
     }
     let count = so_far.value.pieces.len() as u32;
-    let open = take_mark(lexicon, Mark::OpenBracket, so_far.rest)?;
     let outermost = is_outermost(may_lack, so_far.value.pieces.as_slice());
-    let size = array_size(alloc, lexicon, outermost, count, below, open.rest)?;
-    let close = take_mark(lexicon, Mark::CloseBracket, size.rest)?;
-    let array = Piece::Arrayed(size.length, open.value.place);
+    let array = array_piece(alloc, lexicon, outermost, count, below, so_far.rest)?;
     Ok(Read {
-        value: so_far.value.with(array, size.depth)?,
-        rest: close.rest,
+        value: so_far.value.with(array.piece, array.depth)?,
+        rest: array.rest,
     })
 }
 
 /// A function.
 #[cycle(declaring)]
-#[tactic(auto, unfolding(crate::specs::Readers::called), using(sb_expr::proofs::Lists::count_of_pieces))]
+#[tactic(auto, unfolding(crate::specs::Readers::called), using(sb_operand::proofs::Lists::count_of_pieces))]
 fn called<'a>(
     alloc: Global,
     lexicon: &Lexicon,
@@ -164,7 +168,9 @@ fn called<'a>(
     requires known { IsDeep so_far.value }
     requires bounds { IsSized below room so_far.value }
     requires bare { specified.is_bare (plain_pieces so_far.value.pieces.items) ≡ true }
-    ensures read { ReadsDeclarator lexicon.now.types.now (roomy spec.called (meant lexicon.now) functions may_lack below room (plain_declarator lexicon.now.types.now so_far.entry.value) so_far.entry.rest.now) result }
+    ensures read { ReadsDeclarator lexicon.now.types.now
+        (roomy spec.called (meant lexicon.now) functions may_lack below room
+        (plain_declarator lexicon.now.types.now so_far.entry.value) so_far.entry.rest.now) result }
     ensures bounds { IfOk result (λ r. IsSized below room r.value) }
 {
     if so_far.value.pieces.len() >= room as usize {
@@ -205,7 +211,9 @@ fn suffixed<'a>(
     requires room { room ≤ below }
     requires known { IsDeep so_far.value }
     requires bounds { IsSized below room so_far.value }
-    ensures read { ReadsDeclarator lexicon.now.types.now (roomy spec.suffixed (meant lexicon.now) functions may_lack below room (plain_declarator lexicon.now.types.now so_far.entry.value) so_far.entry.rest.now) result }
+    ensures read { ReadsDeclarator lexicon.now.types.now
+        (roomy spec.suffixed (meant lexicon.now) functions may_lack below room
+        (plain_declarator lexicon.now.types.now so_far.entry.value) so_far.entry.rest.now) result }
     ensures bounds { IfOk result (λ r. IsSized below room r.value) }
 {
     if is_mark_next(lexicon, Mark::OpenBracket, so_far.rest) {
@@ -239,7 +247,10 @@ fn suffixes<'a>(
     requires room { room ≤ below }
     requires known { IsDeep first.value }
     requires bounds { IsSized below room first.value }
-    ensures read { ReadsDeclarator lexicon.now.types.now (looped (part.is_suffix (meant lexicon.now)) (roomy spec.suffixed (meant lexicon.now) functions may_lack below room) (plain_declarator lexicon.now.types.now first.entry.value) first.entry.rest.now) result }
+    ensures read { ReadsDeclarator lexicon.now.types.now
+        (looped (is_suffix (meant lexicon.now))
+        (roomy spec.suffixed (meant lexicon.now) functions may_lack below room)
+        (plain_declarator lexicon.now.types.now first.entry.value) first.entry.rest.now) result }
     ensures bounds { IfOk result (λ r. IsSized below room r.value) }
 {
     let most = first.rest.len();
@@ -266,7 +277,8 @@ fn direct<'a>(
 ) -> Result<Read<'a, Declarator>, ReadFault>
     requires shallow { below < 200 }
     requires room { room ≤ below }
-    ensures read { ReadsDeclarator lexicon.now.types.now (roomy spec.direct (meant lexicon.now) functions may_lack below room tokens.now) result }
+    ensures read { ReadsDeclarator lexicon.now.types.now
+        (roomy spec.direct (meant lexicon.now) functions may_lack below room tokens.now) result }
     ensures bounds { IfOk result (λ r. IsSized below room r.value) }
 {
     let first = first(alloc, lexicon, functions, may_lack, below, room, tokens)?;
@@ -287,7 +299,8 @@ fn pointed<'a>(
     requires shallow { below < 200 }
     requires room { room ≤ below }
     requires some { 1 ≤ room }
-    ensures read { ReadsDeclarator lexicon.now.types.now (part.pointed (meant lexicon.now) functions may_lack below room tokens.now) result }
+    ensures read { ReadsDeclarator lexicon.now.types.now
+        (part.pointed (meant lexicon.now) functions may_lack below room tokens.now) result }
     ensures bounds { IfOk result (λ r. IsSized below room r.value) }
 {
     let star = take_mark(lexicon, Mark::Star, tokens)?;
@@ -321,7 +334,9 @@ fn declarator_at<'a>(
 ) -> Result<Read<'a, Declarator>, ReadFault>
     requires shallow { below < 200 }
     requires room { room ≤ below }
-    ensures read { ReadsDeclarator lexicon.now.types.now (roomy spec.declarator_at (meant lexicon.now) functions may_lack below room tokens.now) result }
+    ensures read { ReadsDeclarator lexicon.now.types.now
+        (roomy spec.declarator_at (meant lexicon.now) functions may_lack below room tokens.now)
+        result }
     ensures bounds { IfOk result (λ r. IsSized below room r.value) }
 {
     if !is_mark_next(lexicon, Mark::Star, tokens) {
@@ -347,7 +362,9 @@ pub fn declarator_within<'a>(
 ) -> Result<Read<'a, Declarator>, ReadFault>
     requires shallow { below < 200 }
     requires room { room ≤ below }
-    ensures read { ReadsDeclarator lexicon.now.types.now (spec.declarators (meant lexicon.now) functions may_lack below (parts lexicon.now.names.now.texts below) room 0 tokens.now) result }
+    ensures read { ReadsDeclarator lexicon.now.types.now
+        (spec.declarators (meant lexicon.now) functions may_lack below
+        (parts lexicon.now.names.now.texts below) room 0 tokens.now) result }
     ensures bounds { IfOk result (λ r. IsSized below room r.value) }
 {
     declarator_at(alloc, lexicon, functions, may_lack, below, room, tokens)

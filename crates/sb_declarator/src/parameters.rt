@@ -1,70 +1,36 @@
 //! The parameters of functions (C99 6.7.5.3).
-ghost use Rattle.std.specs.Prelude.{◌≡◌, ◌≤◌, ◌<◌, ◌-◌, ◌+◌, [], suc, IfOk};
+ghost use Rattle.std.specs.Prelude.{◌≤◌, ◌<◌, ◌-◌, ◌+◌, [], suc, IfOk};
 ghost use Rattle.sb_parse.specs.Parser.{looped};
 ghost use Rattle.sb_lexicon.specs.Lexicon.{is_mark as marked};
 ghost use Rattle.sb_lexicon.specs.Meaning.{meant};
-ghost use Rattle.sb_sal.specs.declared.bearer.Bearer.TheVariants as bearer;
-ghost use Rattle.sb_sal.specs.Meaning.{AreNotesKnown, ReadsNotes};
-ghost use Rattle.sb_sal.specs.Readers.{notes_reader};
-ghost use Rattle.sb_sal.specs.Spellings.{may_stand};
+ghost use Rattle.sb_sal.specs.Meaning.{AreNotesKnown};
 ghost use Rattle.sb_sign.specs.declared.sign.Mark.TheVariants as mark;
 ghost use Rattle.sb_tree.specs.Plain.{plain_decls, plain_notes, plain_type};
 ghost use Rattle.sb_declarator.specs.Declarators as part;
-ghost use Rattle.sb_declarator.specs.Meaning.{inside, plain_declarations, AreKnown, IsListKnown, ReadsDeclarations};
+ghost use Rattle.sb_derivation.specs.Meaning.{plain_declarations, AreKnown, IsListKnown, ReadsDeclarations};
+ghost use Rattle.sb_declarator.specs.Meaning.{inside};
 ghost use Rattle.sb_specifier.specs.Meaning.{IsBaseKnown};
 ghost use Rattle.sb_declarator.specs.Readers as spec;
 ghost use Rattle.sb_specifier.specs.Specified.{reading};
 
-use crate::building::simple_decl;
 use crate::declarators::declarator_within;
-use crate::members::{DeclList, Declarations};
 use crate::specifier_list::specifiers;
-use crate::void::{is_close_second, is_old_next, only_void, void_parameters};
 use sb_base::{Name, Names, Place, Token};
+use sb_derivation::{
+    DeclList, Declarations, first_place, is_close_second, is_old_next, only_void, parameter_notes,
+    simple_decl, void_parameters, without_name,
+};
 use sb_lexicon::{Feature, Lexicon, Read, ReadFault, Reason, is_keyword_next};
-use sb_sal::{Bearer, NoteList, notes_within};
+use sb_sal::NoteList;
 use sb_sign::{Keyword, Mark};
-use sb_specifier::{Based, NOWHERE, Seat, hide, is_mark_next, take_mark};
+use sb_specifier::{Based, Seat, is_mark_next, take_mark};
 use std::alloc::Global;
 
 // ---- one parameter
 
-/// The annotations of a parameter.
-#[tactic(auto, using(crate::proofs::steps::Parameters::notes_end))]
-fn notes_before<'a>(
-    alloc: Global,
-    names: &Names,
-    below: u32,
-    types: &[Name],
-    tokens: &'a [Token],
-) -> Result<NoteList<'a>, ReadFault>
-    requires shallow { below ≤ 200 }
-    ensures read { ReadsNotes (notes_reader (reading names.now.texts types.now) below (may_stand (reading names.now.texts types.now) bearer.Parameter) tokens.now) result }
-    ensures depth { IfOk result (λ ns. ns.depth ≤ below) }
-    ensures ends { IfOk result (λ ns. part.IsEnd tokens.now ns.rest.now) }
-{
-    let lexicon = Lexicon {
-        names,
-        types,
-        in_note: false,
-    };
-    notes_within(alloc, &lexicon, Bearer::Parameter, below, tokens)
-}
-
-/// The place of the first token of annotations and specifiers; `behind`: the tokens behind the annotations.
-fn first_place(tokens: &[Token], behind: &[Token], rest: &[Token]) -> Place
-    requires ends { part.IsEnd tokens.now behind.now }
-    ensures { result ≡ part.first_of tokens.now behind.now rest.now }
-{
-    match tokens.first() {
-        Some(first) if behind.len() < tokens.len() || rest.len() < behind.len() => first.place,
-        _ => NOWHERE,
-    }
-}
-
 /// The declarator of a parameter on its type, behind the parameters before it.
 #[cycle(declaring)]
-#[tactic(auto, using(sb_specifier::proofs::Growing::more_decls, sb_specifier::proofs::Growing::depth_of_more_decls, crate::proofs::Growing::depth_of_simple))]
+#[tactic(auto, using(sb_specifier::proofs::Growing::more_decls, sb_specifier::proofs::Growing::depth_of_more_decls, sb_derivation::proofs::Growing::depth_of_simple))]
 fn parameter_behind<'a>(
     alloc: Global,
     lexicon: &Lexicon,
@@ -81,7 +47,10 @@ fn parameter_behind<'a>(
     requires fits { base.depth ≤ below }
     requires known { IsListKnown so_far }
     requires low { so_far.depth ≤ below + 1 }
-    ensures read { ReadsDeclarations (part.parameter_behind (meant lexicon.now) below (plain_notes notes.entry.list.items) (plain_type base.tree.value) place (plain_decls so_far.entry.list.items) so_far.entry.rest.now) result }
+    ensures read { ReadsDeclarations
+        (part.parameter_behind (meant lexicon.now) below (plain_notes notes.entry.list.items)
+        (plain_type base.tree.value) place (plain_decls so_far.entry.list.items)
+        so_far.entry.rest.now) result }
     ensures depth { IfOk result (λ r. r.value.depth ≤ below + 1) }
 {
     let room = below - base.depth;
@@ -116,11 +85,13 @@ fn parameter<'a>(
     requires some { 1 ≤ below }
     requires known { AreKnown so_far }
     requires low { so_far.depth ≤ below + 1 }
-    ensures read { ReadsDeclarations (inside spec.parameter names.now.texts below (plain_declarations so_far) tokens.now) result }
+    ensures read { ReadsDeclarations
+        (inside spec.parameter names.now.texts below (plain_declarations so_far) tokens.now)
+        result }
     ensures depth { IfOk result (λ r. r.value.depth ≤ below + 1) }
 {
     let outer = so_far.types;
-    let notes = notes_before(alloc, names, below, outer.as_slice(), tokens)?;
+    let notes = parameter_notes(alloc, names, below, outer.as_slice(), tokens)?;
     let found = specifiers(
         alloc,
         names,
@@ -147,17 +118,6 @@ fn parameter<'a>(
     parameter_behind(alloc, &lexicon, below, notes, base, place, before)
 }
 
-/// The typedef names that are in force behind a parameter of this name.
-fn without_name(name: Option<(Name, Place)>, types: Vec<Name>) -> Vec<Name>
-    ensures { result.items ≡ part.hidden_by name types.items }
-{
-    let mut left = types;
-    if let Some((hidden, _place)) = name {
-        hide(&mut left, hidden);
-    }
-    left
-}
-
 // ---- lists of parameters
 
 /// A comma and one more parameter, of at most 32.
@@ -174,7 +134,9 @@ fn next_parameter<'a>(
     requires some { 1 ≤ below }
     requires known { AreKnown so_far }
     requires low { so_far.depth ≤ below + 1 }
-    ensures read { ReadsDeclarations (inside spec.next_parameter names.now.texts below (plain_declarations so_far) tokens.now) result }
+    ensures read { ReadsDeclarations
+        (inside spec.next_parameter names.now.texts below (plain_declarations so_far) tokens.now)
+        result }
     ensures depth { IfOk result (λ r. r.value.depth ≤ below + 1) }
 {
     if so_far.list.len() >= 32 {
@@ -200,7 +162,10 @@ fn more_parameters<'a>(
     requires some { 1 ≤ below }
     requires known { AreKnown first }
     requires low { first.depth ≤ below + 1 }
-    ensures read { ReadsDeclarations (looped (marked (reading names.now.texts []) mark.Comma) (inside spec.next_parameter names.now.texts below) (plain_declarations first) tokens.now) result }
+    ensures read { ReadsDeclarations
+        (looped (marked (reading names.now.texts []) mark.Comma)
+        (inside spec.next_parameter names.now.texts below) (plain_declarations first) tokens.now)
+        result }
     ensures depth { IfOk result (λ r. r.value.depth ≤ below + 1) }
 {
     let mut found = Read {
@@ -228,7 +193,8 @@ fn parameters_at<'a>(
 ) -> Result<Read<'a, Declarations>, ReadFault>
     requires shallow { below < 200 }
     requires some { 1 ≤ below }
-    ensures read { ReadsDeclarations (inside spec.parameters_at names.now.texts below types.now tokens.now) result }
+    ensures read { ReadsDeclarations
+        (inside spec.parameters_at names.now.texts below types.now tokens.now) result }
     ensures depth { IfOk result (λ r. r.value.depth ≤ below + 1) }
 {
     let none = Declarations {
@@ -251,7 +217,8 @@ fn inner_parameters<'a>(
 ) -> Result<Read<'a, Declarations>, ReadFault>
     requires shallow { below < 200 }
     requires room { count + 3 ≤ below }
-    ensures read { ReadsDeclarations (part.inner_parameters (meant lexicon.now) below count tokens.now) result }
+    ensures read { ReadsDeclarations
+        (part.inner_parameters (meant lexicon.now) below count tokens.now) result }
     ensures depth { IfOk result (λ r. r.value.depth ≤ below - suc count) }
 {
     parameters_at(
@@ -274,7 +241,8 @@ fn some_parameters<'a>(
 ) -> Result<Read<'a, Declarations>, ReadFault>
     requires shallow { below < 200 }
     requires few { count < below }
-    ensures read { ReadsDeclarations (part.some_parameters (meant lexicon.now) below count tokens.now) result }
+    ensures read { ReadsDeclarations
+        (part.some_parameters (meant lexicon.now) below count tokens.now) result }
     ensures depth { IfOk result (λ r. r.value.depth ≤ below - suc count) }
 {
     if below - (count + 1) < 2 {
@@ -300,7 +268,8 @@ pub(crate) fn parameters<'a>(
 ) -> Result<Read<'a, Declarations>, ReadFault>
     requires shallow { below < 200 }
     requires few { count < below }
-    ensures read { ReadsDeclarations (part.parameters (meant lexicon.now) below count tokens.now) result }
+    ensures read { ReadsDeclarations (part.parameters (meant lexicon.now) below count tokens.now)
+        result }
     ensures depth { IfOk result (λ r. r.value.depth ≤ below - suc count) }
 {
     if is_old_next(lexicon, tokens) {

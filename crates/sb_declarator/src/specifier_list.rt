@@ -1,15 +1,17 @@
 //! The specifiers of a declaration, with the structures that they define (C99 6.7.2, 6.7.2.1).
-ghost use Rattle.std.specs.Prelude.{◌≤◌, ◌<◌, [], IfOk};
+ghost use Rattle.std.specs.Prelude.{◌≤◌, ◌<◌, ◌+◌, [], IfOk};
 ghost use Rattle.sb_parse.specs.Parser.{looped};
 ghost use Rattle.sb_lexicon.specs.Meaning.{GivesAs};
+ghost use Rattle.sb_derivation.specs.Meaning.{plain_untyped};
 ghost use Rattle.sb_declarator.specs.Meaning.{nested};
 ghost use Rattle.sb_specifier.specs.Meaning.{plain_specified, IsKnown, IsRoomy, ReadsSpecifiers};
 ghost use Rattle.sb_declarator.specs.Parts as part;
 ghost use Rattle.sb_specifier.specs.Readers as spec;
-ghost use Rattle.sb_specifier.specs.Specified.{reading};
+ghost use Rattle.sb_specifier.specs.Specified.{reading, one_if};
 
 use crate::members::members;
 use sb_base::{Name, Names, Place, Token};
+use sb_derivation::Untyped;
 use sb_lexicon::{Read, ReadFault};
 use sb_sign::{Keyword, Mark};
 use sb_specifier::{
@@ -27,14 +29,15 @@ fn structure<'a>(
     alloc: Global,
     names: &Names,
     below: u32,
-    so_far: Specified,
+    so_far: Untyped,
     tag: Option<Name>,
     place: Place,
     tokens: &'a [Token],
 ) -> Result<Read<'a, Specified>, ReadFault>
     requires shallow { below < 200 }
-    requires fits { IsRoomy below so_far }
-    ensures read { GivesAs plain_specified (part.structure names.now.texts below (plain_specified so_far) tag place tokens.now) result }
+    requires fits { 1 + one_if so_far.constant ≤ below }
+    ensures read { GivesAs plain_specified
+        (part.structure names.now.texts below (plain_untyped so_far) tag place tokens.now) result }
     ensures known { IfOk result (λ r. IsKnown r.value) }
     ensures fits { IfOk result (λ r. IsRoomy below r.value) }
 {
@@ -67,12 +70,13 @@ fn tagged_structure<'a>(
     alloc: Global,
     names: &Names,
     below: u32,
-    so_far: Specified,
+    so_far: Untyped,
     tokens: &'a [Token],
 ) -> Result<Read<'a, Specified>, ReadFault>
     requires shallow { below < 200 }
-    requires fits { IsRoomy below so_far }
-    ensures read { GivesAs plain_specified (part.tagged_structure names.now.texts below (plain_specified so_far) tokens.now) result }
+    requires fits { 1 + one_if so_far.constant ≤ below }
+    ensures read { GivesAs plain_specified
+        (part.tagged_structure names.now.texts below (plain_untyped so_far) tokens.now) result }
     ensures known { IfOk result (λ r. IsKnown r.value) }
     ensures fits { IfOk result (λ r. IsRoomy below r.value) }
 {
@@ -113,12 +117,14 @@ fn specified<'a>(
     requires shallow { below < 200 }
     requires known { IsKnown so_far }
     requires fits { IsRoomy below so_far }
-    ensures read { GivesAs plain_specified (nested spec.specified names.now.texts seat below (plain_specified so_far) tokens.now) result }
+    ensures read { GivesAs plain_specified
+        (nested spec.specified names.now.texts seat below (plain_specified so_far) tokens.now)
+        result }
     ensures known { IfOk result (λ r. IsKnown r.value) }
     ensures fits { IfOk result (λ r. IsRoomy below r.value) }
 {
     if is_tag_next(names, Keyword::Struct, &so_far.said, tokens) {
-        return tagged_structure(alloc, names, below, so_far, tokens);
+        return tagged_structure(alloc, names, below, Untyped::of(so_far), tokens);
     }
     if is_tag_next(names, Keyword::Enum, &so_far.said, tokens) {
         return tagged_enumeration(alloc, names, below, so_far, tokens);
@@ -140,7 +146,10 @@ fn keyword_specifiers<'a>(
     requires shallow { below < 200 }
     requires known { IsKnown first }
     requires fits { IsRoomy below first }
-    ensures read { GivesAs plain_specified (looped (spec.is_specifier_word (reading names.now.texts [])) (nested spec.specified names.now.texts seat below) (plain_specified first) tokens.now) result }
+    ensures read { GivesAs plain_specified
+        (looped (spec.is_specifier_word (reading names.now.texts []))
+        (nested spec.specified names.now.texts seat below) (plain_specified first) tokens.now)
+        result }
     ensures known { IfOk result (λ r. IsKnown r.value) }
     ensures fits { IfOk result (λ r. IsRoomy below r.value) }
 {
@@ -171,7 +180,9 @@ fn defined<'a>(
     requires shallow { below < 200 }
     requires known { IsKnown so_far }
     requires fits { IsRoomy below so_far }
-    ensures read { GivesAs plain_specified (nested spec.defined names.now.texts seat below (plain_specified so_far) tokens.now) result }
+    ensures read { GivesAs plain_specified
+        (nested spec.defined names.now.texts seat below (plain_specified so_far) tokens.now)
+        result }
     ensures known { IfOk result (λ r. IsKnown r.value) }
     ensures fits { IfOk result (λ r. IsRoomy below r.value) }
 {
@@ -198,7 +209,8 @@ pub fn specifiers<'a>(
 ) -> Result<Read<'a, Specified>, ReadFault>
     requires shallow { below < 200 }
     requires some { 1 ≤ below }
-    ensures read { ReadsSpecifiers (nested spec.specifiers names.now.texts seat below types.now tokens.now) result }
+    ensures read { ReadsSpecifiers
+        (nested spec.specifiers names.now.texts seat below types.now tokens.now) result }
     ensures known { IfOk result (λ r. IsKnown r.value) }
     ensures fits { IfOk result (λ r. IsRoomy below r.value) }
 {

@@ -1,3 +1,5 @@
 pub mod Growing
+pub mod deepening
 pub mod laws
 pub mod telling
+pub mod widening

@@ -14,7 +14,7 @@ use Rattle.sb_tree.specs.Trees as tree
 use Rattle.sb_tree.specs.Trees.{ExprTree, TypeTree, OptionalExpr, ItemTree, DeclTree, NoteTree}
 use Rattle.sb_expr.specs.Expression.{Assignment, Conditional, IsExpr, AreQualifiers, IsSize}
 use Rattle.sb_lexicon.specs.Lexicon.{Lexicon, is_mark, is_keyword, name_of, is_type_name}
-use Rattle.sb_expr.specs.Pieces.{Pointed, Arrayed, Called, Grouped, typed, constant_if}
+use Rattle.sb_operand.specs.Pieces.{Pointed, Arrayed, Called, Grouped, typed, constant_if}
 use Rattle.sb_lexicon.specs.Words.{Said, Nothing, Whole, said_after}
 use Rattle.sb_sal.specs.Notes.{AreNotes}
 use Rattle.sb_sal.specs.declared.bearer.Bearer.TheVariants as bearer

@@ -18,9 +18,10 @@ use Rattle.sb_tree.specs.Trees as tree
 use Rattle.sb_tree.specs.Trees.{TypeTree, OptionalExpr, ItemTree, DeclTree}
 use Rattle.sb_expr.specs.Expression.{Conditional}
 use Rattle.sb_lexicon.specs.Lexicon.{Lexicon, is_mark, is_keyword, name_of, is_type_name, is_type_word, begins_type}
-use Rattle.sb_expr.specs.Pieces.{Piece}
+use Rattle.sb_operand.specs.Pieces.{Piece}
 use Rattle.sb_lexicon.specs.Tokens as expr
-use Rattle.sb_expr.specs.Readers.{begins_abstract, expr_reader}
+use Rattle.sb_operand.specs.Readers.{begins_abstract}
+use Rattle.sb_expr.specs.Readers.{expr_reader}
 use Rattle.sb_lexicon.specs.SpecifierReaders.{is_floating, is_complex, is_union}
 use Rattle.sb_lexicon.specs.Tokens.{unexpected, too_deep, lacks, unknown, misplaced, is_zero, is_open_bracket, is_open_brace, is_comma}
 use Rattle.sb_lexicon.specs.Outcomes.{nowhere}

@@ -10,7 +10,7 @@ use Rattle.sb_sign.specs.declared.sign.Mark.TheVariants as mark
 use Rattle.sb_tree.specs.Trees.{NoteTree}
 use Rattle.sb_expr.specs.Expression.{Level, IsExpr}
 use Rattle.sb_lexicon.specs.Lexicon.{Lexicon, is_mark, is_keyword, is_type_name}
-use Rattle.sb_expr.specs.Readers.{begins_abstract}
+use Rattle.sb_operand.specs.Readers.{begins_abstract}
 use Rattle.sb_lexicon.specs.Tokens.{unexpected, too_deep, lacks, misplaced_before, too_many_parameters, is_open, is_close, is_open_brace, is_comma, is_colon}
 use Rattle.sb_lexicon.specs.Outcomes.{IsStop}
 use Rattle.sb_lexicon.specs.Reasons as expression

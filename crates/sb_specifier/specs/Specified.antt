@@ -10,7 +10,7 @@ use Rattle.sb_tree.specs.declared.syntax.Storage.TheVariants as storage
 use Rattle.sb_tree.specs.Trees as tree
 use Rattle.sb_tree.specs.Trees.{TypeTree, depth_of_type}
 use Rattle.sb_lexicon.specs.Lexicon.{Lexicon}
-use Rattle.sb_expr.specs.Pieces.{Piece, Called, Grouped}
+use Rattle.sb_operand.specs.Pieces.{Piece, Called, Grouped}
 use Rattle.sb_lexicon.specs.Words.{Said, Nothing, Whole, type_said, qualified_if}
 use Rattle.sb_sal.specs.declared.bearer.Bearer.{Bearer}
 use Rattle.sb_sal.specs.declared.bearer.Bearer.TheVariants as bearer

@@ -76,7 +76,8 @@ fn item<'a>(
     requires shallow { left ≤ 200 }
     requires known { AreItemsKnown so_far }
     requires low { so_far.depth ≤ left }
-    ensures read { ReadsItems (part.item names.now.texts left (plain_listing so_far) tokens.now) result }
+    ensures read { ReadsItems (part.item names.now.texts left (plain_listing so_far) tokens.now)
+        result }
     ensures depth { IfOk result (λ r. r.value.depth ≤ left) }
 {
     if !so_far.more {
@@ -116,7 +117,8 @@ fn more_items<'a>(
     requires shallow { left ≤ 200 }
     requires known { AreItemsKnown first }
     requires low { first.depth ≤ left }
-    ensures read { ReadsItems (looped (spec.is_name (reading names.now.texts [])) (part.item names.now.texts left) (plain_listing first) tokens.now) result }
+    ensures read { ReadsItems (looped (spec.is_name (reading names.now.texts []))
+        (part.item names.now.texts left) (plain_listing first) tokens.now) result }
     ensures depth { IfOk result (λ r. r.value.depth ≤ left) }
 {
     let mut found = Read {
@@ -173,7 +175,9 @@ pub fn enumeration<'a>(
 ) -> Result<Read<'a, Specified>, ReadFault>
     requires shallow { below < 200 }
     requires fits { IsRoomy below so_far }
-    ensures read { GivesAs plain_specified (part.enumeration names.now.texts below (plain_specified so_far) tag place tokens.now) result }
+    ensures read { GivesAs plain_specified
+        (part.enumeration names.now.texts below (plain_specified so_far) tag place tokens.now)
+        result }
     ensures known { IfOk result (λ r. IsKnown r.value) }
     ensures fits { IfOk result (λ r. IsRoomy below r.value) }
 {

@@ -37,7 +37,8 @@ fn is_first_static_next(lexicon: &Lexicon, fixed: bool, tokens: &[Token]) -> boo
 }
 
 fn take_qualifier<'a>(lexicon: &Lexicon, tokens: &'a [Token]) -> Result<Read<'a, Token>, ReadFault>
-    ensures { Gives (next expr.unexpected (expr.is_qualifier (meant lexicon.now)) tokens.now) result }
+    ensures { Gives (next expr.unexpected (expr.is_qualifier (meant lexicon.now)) tokens.now)
+        result }
 {
     match tokens.split_first() {
         Some((first, rest)) if is_qualifier(lexicon, first) => Ok(Read {
@@ -75,7 +76,8 @@ fn size_word<'a>(
 
 /// As many such words as there are, and whether `static` is among them.
 fn size_words<'a>(lexicon: &Lexicon, tokens: &'a [Token]) -> Result<Read<'a, bool>, ReadFault>
-    ensures { Gives (looped (spec.is_size_word (meant lexicon.now)) (spec.size_word (meant lexicon.now)) false tokens.now) result }
+    ensures { Gives (looped (spec.is_size_word (meant lexicon.now))
+        (spec.size_word (meant lexicon.now)) false tokens.now) result }
 {
     let mut found = Read {
         value: false,
@@ -151,7 +153,8 @@ pub fn array_size<'a>(
 ) -> Result<Size<'a>, ReadFault>
     requires shallow { below < 200 }
     requires few { count < below }
-    ensures read { ReadsSize (spec.array_size (meant lexicon.now) outermost below count tokens.now) result }
+    ensures read { ReadsSize (spec.array_size (meant lexicon.now) outermost below count tokens.now)
+        result }
     ensures depth { IfOk result (λ s. s.depth ≤ below - suc count) }
 {
     if !outermost {

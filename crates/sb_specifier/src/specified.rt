@@ -160,7 +160,8 @@ impl Said {
 
     /// The words of the type with one more, which stands at this place, and where they begin.
     pub fn with_word(&self, word: Keyword, place: Place) -> Option<(TypeWords, Place)>
-        ensures { option_map (λ w. words.Words w.0 w.1) result ≡ words.said_after word place (plain_said self.now) }
+        ensures { option_map (λ w. words.Words w.0 w.1) result
+            ≡ words.said_after word place (plain_said self.now) }
     {
         match self {
             Said::Nothing => Some((TypeWords::none().put(word)?, place)),
@@ -205,7 +206,8 @@ impl Said {
     pub fn based(self, alloc: Global, depth: u32, constant: bool) -> Result<Based, AllocError>
         requires known { depth ≡ spec.depth_said (plain_said self) }
         requires shallow { depth ≤ 200 }
-        ensures tree { IfOk result (λ b. plain_type b.tree.value ≡ words.qualified constant (named_by (plain_said self))) }
+        ensures tree { IfOk result
+            (λ b. plain_type b.tree.value ≡ words.qualified constant (named_by (plain_said self))) }
         ensures known { IfOk result (λ b. IsBaseKnown b) }
         ensures depth { IfOk result (λ b. b.depth ≡ depth + spec.one_if constant) }
     {
@@ -253,7 +255,8 @@ impl Specified {
 
     /// The same with another type, which is not deep.
     pub fn saying(self, said: Said) -> Specified
-        ensures same { plain_specified result ≡ spec.saying (plain_said said) (plain_specified self) }
+        ensures same { plain_specified result
+            ≡ spec.saying (plain_said said) (plain_specified self) }
         ensures depth { result.depth ≡ 1 }
     {
         Specified {

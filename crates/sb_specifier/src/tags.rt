@@ -22,7 +22,9 @@ use std::alloc::Global;
 
 /// Whether a structure or an enumeration begins here, where no type is named so far.
 pub fn is_tag_next(names: &Names, word: Keyword, said: &Said, tokens: &[Token]) -> bool
-    ensures { result ≡ at_next (λ t. sign.is_keyword names.now.texts word t && is_nothing (plain_said said.now)) tokens.now }
+    ensures { result ≡ at_next
+        (λ t. sign.is_keyword names.now.texts word t && is_nothing (plain_said said.now))
+        tokens.now }
 {
     match tokens.first() {
         Some(token) => is_keyword(names, word, token) && said.is_nothing(),
@@ -32,7 +34,9 @@ pub fn is_tag_next(names: &Names, word: Keyword, said: &Said, tokens: &[Token]) 
 
 /// Whether a brace comes next that would define what a tag behind other specifiers names.
 fn opens_tag(names: &Names, said: &Said, tokens: &[Token]) -> bool
-    ensures { result ≡ at_next (λ t. is_tag_alone (plain_said said.now) && sign.is_mark names.now.texts mark.OpenBrace t) tokens.now }
+    ensures { result ≡ at_next
+        (λ t. is_tag_alone (plain_said said.now) && sign.is_mark names.now.texts mark.OpenBrace t)
+        tokens.now }
 {
     said.is_tag_alone() && is_mark_next(names, Mark::OpenBrace, tokens)
 }
@@ -44,7 +48,9 @@ pub fn past_tag<'a>(
     names: &Names,
     found: Read<'a, Specified>,
 ) -> Result<Read<'a, Specified>, ReadFault>
-    ensures read { GivesAs plain_specified (part.past_tag names.now.texts (plain_specified found.entry.value) found.entry.rest.now) result }
+    ensures read { GivesAs plain_specified
+        (part.past_tag names.now.texts (plain_specified found.entry.value) found.entry.rest.now)
+        result }
     ensures same { IfOk result (λ r. r.value ≡ found.entry.value) }
 {
     if opens_tag(names, &found.value.said, found.rest) {
@@ -65,7 +71,8 @@ pub fn tagged_enumeration<'a>(
 ) -> Result<Read<'a, Specified>, ReadFault>
     requires shallow { below < 200 }
     requires fits { IsRoomy below so_far }
-    ensures read { GivesAs plain_specified (part.tagged_enumeration names.now.texts below (plain_specified so_far) tokens.now) result }
+    ensures read { GivesAs plain_specified
+        (part.tagged_enumeration names.now.texts below (plain_specified so_far) tokens.now) result }
     ensures known { IfOk result (λ r. IsKnown r.value) }
     ensures fits { IfOk result (λ r. IsRoomy below r.value) }
 {

@@ -137,7 +137,8 @@ pub fn take_keyword<'a>(
     keyword: Keyword,
     tokens: &'a [Token],
 ) -> Result<Read<'a, Token>, ReadFault>
-    ensures { Gives (next expr.unexpected (sign.is_keyword names.now.texts keyword) tokens.now) result }
+    ensures { Gives (next expr.unexpected (sign.is_keyword names.now.texts keyword) tokens.now)
+        result }
 {
     match tokens.split_first() {
         Some((first, rest)) if is_keyword(names, keyword, first) => Ok(Read {
@@ -160,7 +161,8 @@ pub fn take_name<'a>(
     names: &Names,
     tokens: &'a [Token],
 ) -> Result<Read<'a, (Name, Place)>, ReadFault>
-    ensures { Gives (taken expr.unexpected (spec.name_at (reading names.now.texts [])) tokens.now) result }
+    ensures { Gives (taken expr.unexpected (spec.name_at (reading names.now.texts [])) tokens.now)
+        result }
 {
     match tokens.split_first() {
         Some((token, rest)) => take(name_at(names, token), rest),

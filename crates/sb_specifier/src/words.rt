@@ -19,7 +19,8 @@ use sb_sign::{Keyword, is_keyword, keyword_of};
 // ---- the next token
 
 fn is_floating_next(names: &Names, said: &Said, tokens: &[Token]) -> bool
-    ensures { result ≡ at_next (expr.is_floating (reading names.now.texts []) (plain_said said.now)) tokens.now }
+    ensures { result ≡ at_next (expr.is_floating (reading names.now.texts []) (plain_said said.now))
+        tokens.now }
 {
     match tokens.first() {
         Some(token) => {
@@ -31,7 +32,8 @@ fn is_floating_next(names: &Names, said: &Said, tokens: &[Token]) -> bool
 }
 
 fn is_union_next(names: &Names, said: &Said, tokens: &[Token]) -> bool
-    ensures { result ≡ at_next (expr.is_union (reading names.now.texts []) (plain_said said.now)) tokens.now }
+    ensures { result ≡ at_next (expr.is_union (reading names.now.texts []) (plain_said said.now))
+        tokens.now }
 {
     match tokens.first() {
         Some(token) => is_keyword(names, Keyword::Union, token) && said.is_nothing(),
@@ -40,7 +42,8 @@ fn is_union_next(names: &Names, said: &Said, tokens: &[Token]) -> bool
 }
 
 fn is_complex_next(names: &Names, said: &Said, tokens: &[Token]) -> bool
-    ensures { result ≡ at_next (expr.is_complex (reading names.now.texts []) (plain_said said.now)) tokens.now }
+    ensures { result ≡ at_next (expr.is_complex (reading names.now.texts []) (plain_said said.now))
+        tokens.now }
 {
     match tokens.first() {
         Some(token) => {
@@ -64,7 +67,8 @@ fn is_inline_next(names: &Names, seat: Seat, tokens: &[Token]) -> bool
 
 /// Whether a typedef name comes next where no type is named so far.
 pub fn names_type(names: &Names, so_far: &Specified, tokens: &[Token]) -> bool
-    ensures { result ≡ at_next (part.names_type names.now.texts (plain_specified so_far.now)) tokens.now }
+    ensures { result ≡ at_next (part.names_type names.now.texts (plain_specified so_far.now))
+        tokens.now }
 {
     let lexicon = Lexicon {
         names,
@@ -82,7 +86,9 @@ pub(crate) fn word<'a>(
     so_far: Specified,
     tokens: &'a [Token],
 ) -> Result<Read<'a, Specified>, ReadFault>
-    ensures read { GivesAs plain_specified (taken lexeme.unexpected (spec.word_after (reading names.now.texts []) (plain_specified so_far)) tokens.now) result }
+    ensures read { GivesAs plain_specified
+        (taken lexeme.unexpected
+        (spec.word_after (reading names.now.texts []) (plain_specified so_far)) tokens.now) result }
     ensures known { IfOk result (λ r. IsKnown r.value) }
     ensures depth { IfOk result (λ r. r.value.depth ≡ 1) }
     ensures same { IfOk result (λ r. r.value.constant ≡ so_far.constant) }
@@ -108,7 +114,8 @@ fn word_or_lacking<'a>(
     so_far: Specified,
     tokens: &'a [Token],
 ) -> Result<Read<'a, Specified>, ReadFault>
-    ensures read { GivesAs plain_specified (part.word_or_lacking names.now.texts (plain_specified so_far) tokens.now) result }
+    ensures read { GivesAs plain_specified
+        (part.word_or_lacking names.now.texts (plain_specified so_far) tokens.now) result }
     ensures known { IfOk result (λ r. IsKnown r.value) }
     ensures depth { IfOk result (λ r. r.value.depth ≡ 1) }
     ensures same { IfOk result (λ r. r.value.constant ≡ so_far.constant) }
@@ -136,7 +143,10 @@ fn storage_word<'a>(
     tokens: &'a [Token],
 ) -> Result<Read<'a, Specified>, ReadFault>
     requires known { IsKnown so_far }
-    ensures read { GivesAs plain_specified (taken lexeme.unexpected (spec.storage_after (reading names.now.texts []) seat (plain_specified so_far)) tokens.now) result }
+    ensures read { GivesAs plain_specified
+        (taken lexeme.unexpected
+        (spec.storage_after (reading names.now.texts []) seat (plain_specified so_far)) tokens.now)
+        result }
     ensures known { IfOk result (λ r. IsKnown r.value) }
     ensures depth { IfOk result (λ r. r.value.depth ≡ so_far.depth) }
     ensures same { IfOk result (λ r. r.value.constant ≡ so_far.constant) }
@@ -165,7 +175,8 @@ fn constant<'a>(
 ) -> Result<Read<'a, Specified>, ReadFault>
     requires known { IsKnown so_far }
     requires fits { IsRoomy below so_far }
-    ensures read { GivesAs plain_specified (part.constant names.now.texts below (plain_specified so_far) tokens.now) result }
+    ensures read { GivesAs plain_specified
+        (part.constant names.now.texts below (plain_specified so_far) tokens.now) result }
     ensures known { IfOk result (λ r. IsKnown r.value) }
     ensures fits { IfOk result (λ r. IsRoomy below r.value) }
 {
@@ -186,7 +197,8 @@ fn skipped<'a>(
     so_far: Specified,
     tokens: &'a [Token],
 ) -> Result<Read<'a, Specified>, ReadFault>
-    ensures read { GivesAs plain_specified (part.skipped names.now.texts word (plain_specified so_far) tokens.now) result }
+    ensures read { GivesAs plain_specified
+        (part.skipped names.now.texts word (plain_specified so_far) tokens.now) result }
     ensures same { IfOk result (λ r. r.value ≡ so_far) }
 {
     let found = take_keyword(names, word, tokens)?;
@@ -206,7 +218,8 @@ pub fn tagless<'a>(
 ) -> Result<Read<'a, Specified>, ReadFault>
     requires known { IsKnown so_far }
     requires fits { IsRoomy below so_far }
-    ensures read { GivesAs plain_specified (part.tagless names.now.texts seat below (plain_specified so_far) tokens.now) result }
+    ensures read { GivesAs plain_specified
+        (part.tagless names.now.texts seat below (plain_specified so_far) tokens.now) result }
     ensures known { IfOk result (λ r. IsKnown r.value) }
     ensures fits { IfOk result (λ r. IsRoomy below r.value) }
 {
@@ -233,7 +246,8 @@ pub fn typedef_name<'a>(
     so_far: Specified,
     tokens: &'a [Token],
 ) -> Result<Read<'a, Specified>, ReadFault>
-    ensures read { GivesAs plain_specified (part.typedef_name names.now.texts (plain_specified so_far) tokens.now) result }
+    ensures read { GivesAs plain_specified
+        (part.typedef_name names.now.texts (plain_specified so_far) tokens.now) result }
     ensures known { IfOk result (λ r. IsKnown r.value) }
     ensures depth { IfOk result (λ r. r.value.depth ≡ 1) }
     ensures same { IfOk result (λ r. r.value.constant ≡ so_far.constant) }
@@ -252,7 +266,9 @@ pub fn typedef_name<'a>(
 
 /// The specifiers, which have to name a type.
 pub fn completed<'a>(found: Read<'a, Specified>) -> Result<Read<'a, Specified>, ReadFault>
-    ensures read { ReadsSpecifiers (part.completed (plain_specified found.entry.value) (base_of (plain_specified found.entry.value)) found.entry.rest.now) result }
+    ensures read { ReadsSpecifiers
+        (part.completed (plain_specified found.entry.value)
+        (base_of (plain_specified found.entry.value)) found.entry.rest.now) result }
     ensures same { IfOk result (λ r. r.value ≡ found.entry.value) }
 {
     if found.value.said.is_nothing() {

@@ -1,26 +1,28 @@
-use Rattle.std.proofs.Common.{◌≡◌, ◌<◌, ◌≤◌, ◌-◌, ◌∙◌, [], ◌∷◌, ◌++◌, max, if◌then◌else◌, sym, ap, refl, subst, length, arith, ◌+◌}
+use Rattle.std.proofs.Common.{◌≡◌, ◌≤◌, ◌-◌, ◌∙◌, [], ◌∷◌, ◌++◌, max, if◌then◌else◌, sym, ap, refl, subst, length, arith, ◌+◌}
 use Rattle.std.proofs.lemmas.Result.{err_from_is_err_and}
 use Rattle.sb_parse.specs.Parser.{done, stop, and_then, pure, looped}
-use Rattle.sb_tree.specs.Plain.{plain_decl, plain_decls, plain_notes, plain_type, decl_list}
+use Rattle.sb_tree.specs.Plain.{plain_decls, plain_notes, plain_type, decl_list}
 use Rattle.sb_tree.specs.Trees.{depth_of_decl, depth_of_decls}
-use Rattle.sb_expr.specs.Meaning.{plain_pieces}
+use Rattle.sb_operand.specs.Meaning.{plain_pieces}
 use Rattle.sb_lexicon.specs.Meaning.{IsFault, meant}
 use Rattle.sb_lexicon.proofs.Loops.{loop_ends, loop_over, loop_goes, loop_faults, fault_first}
-use Rattle.sb_expr.proofs.Lists.{count_of_pieces}
+use Rattle.sb_operand.proofs.Lists.{count_of_pieces}
 use Rattle.sb_sal.specs.Readers.{notes_reader}
 use Rattle.sb_sal.specs.Spellings.{may_stand}
 use Rattle.sb_sal.specs.declared.bearer.Bearer.TheVariants as bearer
-use Rattle.sb_declarator.specs.Meaning.{nested, plain_declarations}
+use Rattle.sb_derivation.specs.Meaning.{plain_declarations, plain_untyped}
+use Rattle.sb_declarator.specs.Meaning.{nested}
 use Rattle.sb_specifier.specs.Meaning.{plain_later, plain_specified, type_in}
 use Rattle.sb_specifier.specs.Declaration.{nowhere}
-use Rattle.sb_declarator.specs.Declarators.{names_inside, plain_declarator, hidden_by}
-use Rattle.sb_declarator.specs.Parts.{simple_decl, declared_members}
+use Rattle.sb_derivation.specs.Declarators.{names_inside, plain_declarator, hidden_by}
+use Rattle.sb_derivation.specs.Parts.{simple_decl}
+use Rattle.sb_declarator.specs.Parts.{declared_members}
 use Rattle.sb_declarator.specs.Readers.{parts}
 use Rattle.sb_specifier.specs.Readers.{bit_field, specifiers, specified, is_specifier_word}
 use Rattle.sb_specifier.specs.Specified.{reading, unspecified, is_function}
 use Rattle.sb_specifier.proofs.Growing.{more_decls, depth_of_more_decls}
-use Rattle.sb_declarator.proofs.Growing.{depth_of_simple}
-use Rattle.sb_declarator.proofs.steps.Members.{stops_is, specifiers_at, member_declarator_at, next_member_at, member_faults, member_then}
+use Rattle.sb_derivation.proofs.Growing.{depth_of_simple}
+use Rattle.sb_declarator.proofs.steps.Members.{stops_is, structure_first, specifiers_at, member_declarator_at, later_member_at, one_more_member, member_faults, member_then}
 use Rattle.sb_declarator.proofs.steps.Parts.{no_members, some_members, structure_at}
 use Rattle.sb_declarator.proofs.steps.Declarators.{at_room, called_at, starred_at, behind_open, inside_at, pointed_at, suffixed_by}
 use Rattle.sb_declarator.proofs.steps.Parameters.{inner_at, parameter_behind_at, same_declarations, parameter_at}
@@ -46,14 +48,15 @@ specifier_list::keyword_specifiers-returns-clause-read t c = loop_over _ _ (plai
 pub members::next_members-returns-then-not-is_mark_next-clause-read : goal.members::next_members-returns-then-not-is_mark_next-clause-read
 members::next_members-returns-then-not-is_mark_next-clause-read t c = (loop_ends _ _ (plain_decls c.args.first.list.items) c.args.first.rest.now c.loop-turn._turn (length c.args.first.rest.now) (plain_decls c.loop-turn.found.list.items) c.loop-turn.found.rest.now c.loop-turn.invariant.0 (sym c.if-not-is_mark_next.ensures), c.loop-turn.invariant.1)
 
-pub members::next_members-returns-in_err-found-clause-read : goal.members::next_members-returns-in_err-found-clause-read
-members::next_members-returns-in_err-found-clause-read t c =
+pub members::next_members-returns-in_err-next-clause-read : goal.members::next_members-returns-in_err-next-clause-read
+members::next_members-returns-in_err-next-clause-read t c =
     let p = err_from_is_err_and c.from_residual.result c.from_residual.ensures.1 in
-    rw (p.1, p.2) (loop_faults _ _ (plain_decls c.args.first.list.items) c.args.first.rest.now c.loop-turn._turn (length c.args.first.rest.now) (plain_decls c.loop-turn.found.list.items) c.loop-turn.found.rest.now c.loop-turn.invariant.0 c.loop-turn-test.true (sym c.if-not-is_mark_next.ensures) _ c.in_err-found.ensures.read)
+    rw (p.1, p.2) (loop_faults _ _ (plain_decls c.args.first.list.items) c.args.first.rest.now c.loop-turn._turn (length c.args.first.rest.now) (plain_decls c.loop-turn.found.list.items) c.loop-turn.found.rest.now c.loop-turn.invariant.0 c.loop-turn-test.true (sym c.if-not-is_mark_next.ensures) _ (rw (one_more_member c.args.names.now.texts c.args.below c.args.heading.now (plain_decls c.loop-turn.found.list.items) c.loop-turn.found.rest.now) (fault_first _ _ _ c.in_err-next.ensures.read)))
 
 pub members::next_members-loop-turn-preserved : goal.members::next_members-loop-turn-preserved
 members::next_members-loop-turn-preserved t c =
-    (loop_goes _ _ (plain_decls c.args.first.list.items) c.args.first.rest.now c.loop-turn._turn (length c.args.first.rest.now) (plain_decls c.loop-turn.found.list.items) c.loop-turn.found.rest.now c.loop-turn.invariant.0 c.loop-turn-test.true (sym c.if-not-is_mark_next.ensures) (plain_decls c.in_ok-found.found.list.items) c.in_ok-found.found.rest.now c.in_ok-found.ensures.read.0, c.in_ok-found.ensures.read.1, c.in_ok-found.ensures.depth)
+    let before = plain_decls c.loop-turn.found.list.items in
+    (loop_goes _ _ (plain_decls c.args.first.list.items) c.args.first.rest.now c.loop-turn._turn (length c.args.first.rest.now) (plain_decls c.loop-turn.found.list.items) c.loop-turn.found.rest.now c.loop-turn.invariant.0 c.loop-turn-test.true (sym c.if-not-is_mark_next.ensures) (plain_decls c.in_ok-found.found.list.items) c.in_ok-found.found.rest.now (one_more_member c.args.names.now.texts c.args.below c.args.heading.now (plain_decls c.loop-turn.found.list.items) c.loop-turn.found.rest.now ∙ ap (λ o. and_then o (λ d. pure (before ++ (d ∷ [])))) c.in_ok-next.ensures.read.0 ∙ ap (λ l. done l c.in_ok-next.next.rest.now) (sym c.in_ok-found.ensures.list) ∙ ap (λ r. done (plain_decls c.in_ok-found.found.list.items) r) (sym c.in_ok-found.ensures.rest)), c.in_ok-found.ensures.known, omega (arith, c.in_ok-found.ensures.depth, c.loop-turn.invariant.2, c.in_ok-next.ensures.depth))
 
 pub members::next_members-returns-clause-read : goal.members::next_members-returns-clause-read
 members::next_members-returns-clause-read t c = (loop_over _ _ (plain_decls c.args.first.list.items) c.args.first.rest.now c.loop-turn._turn (length c.args.first.rest.now) (plain_decls c.loop-turn.found.list.items) c.loop-turn.found.rest.now c.loop-turn.invariant.0 c.loop-turn-test.false, c.loop-turn.invariant.1)
@@ -86,32 +89,20 @@ members::members-returns-clause-read t c =
 pub specifier_list::structure-returns-in_err-found-clause-read : goal.specifier_list::structure-returns-in_err-found-clause-read
 specifier_list::structure-returns-in_err-found-clause-read t c =
     let p = err_from_is_err_and c.from_residual-in_err-found.result c.from_residual-in_err-found.ensures.1 in
-    rw (p.1, p.2, structure_at c.args.names.now.texts c.args.below c.room_inside-left.result (plain_specified c.args.so_far) c.args.tag c.args.place c.args.tokens.now c.in_ok-open.open.value c.in_ok-open.open.rest.now c.room_inside-left.ensures (omega (arith, c.if-left-lt2.false)) c.in_ok-open.ensures) (fault_first _ _ _ c.in_err-found.ensures.read)
+    rw (p.1, p.2, structure_at c.args.names.now.texts c.args.below c.room_inside-left.result (plain_untyped c.args.so_far) c.args.tag c.args.place c.args.tokens.now c.in_ok-open.open.value c.in_ok-open.open.rest.now c.room_inside-left.ensures (omega (arith, c.if-left-lt2.false)) c.in_ok-open.ensures) (fault_first _ _ _ c.in_err-found.ensures.read)
 
 pub specifier_list::structure-returns-in_err-close-clause-read : goal.specifier_list::structure-returns-in_err-close-clause-read
 specifier_list::structure-returns-in_err-close-clause-read t c =
     let p = err_from_is_err_and c.from_residual-in_err-close.result c.from_residual-in_err-close.ensures.1 in
-    rw (p.1, p.2, structure_at c.args.names.now.texts c.args.below c.room_inside-left.result (plain_specified c.args.so_far) c.args.tag c.args.place c.args.tokens.now c.in_ok-open.open.value c.in_ok-open.open.rest.now c.room_inside-left.ensures (omega (arith, c.if-left-lt2.false)) c.in_ok-open.ensures, c.in_ok-found.ensures.read.0) (fault_first _ _ _ c.in_err-close.ensures)
+    rw (p.1, p.2, structure_at c.args.names.now.texts c.args.below c.room_inside-left.result (plain_untyped c.args.so_far) c.args.tag c.args.place c.args.tokens.now c.in_ok-open.open.value c.in_ok-open.open.rest.now c.room_inside-left.ensures (omega (arith, c.if-left-lt2.false)) c.in_ok-open.ensures, c.in_ok-found.ensures.read.0) (fault_first _ _ _ c.in_err-close.ensures)
 
 pub specifier_list::structure-returns-clause-read : goal.specifier_list::structure-returns-clause-read
 specifier_list::structure-returns-clause-read t c =
-    rw (structure_at c.args.names.now.texts c.args.below c.room_inside-left.result (plain_specified c.args.so_far) c.args.tag c.args.place c.args.tokens.now c.in_ok-open.open.value c.in_ok-open.open.rest.now c.room_inside-left.ensures (omega (arith, c.if-left-lt2.false)) c.in_ok-open.ensures, c.in_ok-found.ensures.read.0, c.in_ok-close.ensures) refl
-
-pub members::next_member-returns-in_err-next-clause-read : goal.members::next_member-returns-in_err-next-clause-read
-members::next_member-returns-in_err-next-clause-read t c =
-    let p = err_from_is_err_and c.from_residual-in_err-next.result c.from_residual-in_err-next.ensures.1 in
-    rw (p.1, p.2, next_member_at c.args.names.now.texts c.args.below c.args.heading.now (plain_notes c.in_ok-notes.notes.list.items) (plain_type c.in_ok-base.base.tree.value) (plain_decls c.args.so_far.list.items) c.args.so_far.rest.now c.in_ok-comma.comma.value c.in_ok-comma.comma.rest.now c.in_ok-comma.ensures c.in_ok-notes.ensures.list c.in_ok-base.ensures.tree)
-    (fault_first _ _ _ c.in_err-next.ensures.read)
+    rw (structure_at c.args.names.now.texts c.args.below c.room_inside-left.result (plain_untyped c.args.so_far) c.args.tag c.args.place c.args.tokens.now c.in_ok-open.open.value c.in_ok-open.open.rest.now c.room_inside-left.ensures (omega (arith, c.if-left-lt2.false)) c.in_ok-open.ensures, c.in_ok-found.ensures.read.0, c.in_ok-close.ensures) refl
 
 pub members::next_member-returns-clause-read : goal.members::next_member-returns-clause-read
 members::next_member-returns-clause-read t c =
-    let pushed : c.push.new.self.items ≡ c.args.so_far.list.items ++ (c.in_ok-next.next.tree ∷ []) = c.in_ok-push.ensures.items in
-    let list : plain_decls c.push.new.self.items ≡ plain_decls c.args.so_far.list.items ++ (plain_decl c.in_ok-next.next.tree ∷ []) = ap plain_decls pushed ∙ more_decls c.args.so_far.list.items c.in_ok-next.next.tree in (
-      next_member_at c.args.names.now.texts c.args.below c.args.heading.now (plain_notes c.in_ok-notes.notes.list.items) (plain_type c.in_ok-base.base.tree.value) (plain_decls c.args.so_far.list.items) c.args.so_far.rest.now c.in_ok-comma.comma.value c.in_ok-comma.comma.rest.now c.in_ok-comma.ensures c.in_ok-notes.ensures.list c.in_ok-base.ensures.tree
-          ∙ ap (λ o. and_then o (λ d. pure (plain_decls c.args.so_far.list.items ++ (d ∷ [])))) c.in_ok-next.ensures.read.0 ∙ ap (λ l. done l c.in_ok-next.next.rest.now) (sym list),
-      c.max.ensures ∙ ap (λ n. max n c.in_ok-next.next.depth) c.requires.known ∙ ap (λ n. max (depth_of_decls (decl_list (plain_decls c.args.so_far.list.items))) n) c.in_ok-next.ensures.read.1
-          ∙ sym (depth_of_more_decls (plain_decls c.args.so_far.list.items) (plain_decl c.in_ok-next.next.tree)) ∙ ap (λ l. depth_of_decls (decl_list l)) (sym list),
-    )
+    rw (later_member_at c.args.names.now.texts c.args.below c.args.heading.now (plain_notes c.in_ok-notes.notes.list.items) (plain_type c.in_ok-base.base.tree.value) c.args.tokens.now c.in_ok-comma.comma.value c.in_ok-comma.comma.rest.now c.in_ok-comma.ensures c.in_ok-notes.ensures.list c.in_ok-base.ensures.tree) c.member_declarator.ensures.read
 
 pub members::member-returns-in_err-found-clause-read : goal.members::member-returns-in_err-found-clause-read
 members::member-returns-in_err-found-clause-read t c =
@@ -159,6 +150,10 @@ members::member_declarator-returns-clause-read t c =
           ∙ ap (λ t. done t rest) (sym c.in_ok-tree.ensures),
       omega (arith, c.max.ensures, c.max-depth.ensures, c.len-count.ensures, deep, ap depth_of_decl c.in_ok-tree.ensures),
     )
+
+pub specifier_list::specified-returns-then-is_tag_next-clause-read : goal.specifier_list::specified-returns-then-is_tag_next-clause-read
+specifier_list::specified-returns-then-is_tag_next-clause-read t c =
+    rw (structure_first c.args.names.now.texts c.args.seat c.args.below (plain_specified c.args.so_far) (plain_untyped c.of.result) c.args.tokens.now (sym c.if-is_tag_next.ensures) c.of.ensures.same) c.tagged_structure.ensures.read
 
 pub specifier_list::specifiers-returns-clause-read : goal.specifier_list::specifiers-returns-clause-read
 specifier_list::specifiers-returns-clause-read t c =

@@ -5,11 +5,13 @@ use Rattle.sb_tree.specs.Plain.{plain_decls}
 use Rattle.sb_sign.specs.declared.sign.Mark.TheVariants as mark
 use Rattle.sb_lexicon.specs.Lexicon.{is_mark, is_mark as marked}
 use Rattle.sb_lexicon.specs.Meaning.{meant}
-use Rattle.sb_declarator.specs.Meaning.{nested, inside, heading_members, plain_declarations, AreKnown, IsListKnown}
+use Rattle.sb_derivation.specs.Meaning.{plain_declarations, AreKnown, IsListKnown}
+use Rattle.sb_declarator.specs.Meaning.{nested, inside, heading_members}
 use Rattle.sb_specifier.specs.Meaning.{plain_specified, IsKnown, IsRoomy}
 use Rattle.sb_declarator.specs.Parts.{next_member}
 use Rattle.sb_specifier.specs.Specified.{reading}
-use Rattle.sb_declarator.specs.Declarators.{plain_declarator, IsDeep, IsSized, is_suffix, roomy}
+use Rattle.sb_derivation.specs.Declarators.{plain_declarator, IsDeep, IsSized, is_suffix}
+use Rattle.sb_declarator.specs.Declarators.{roomy}
 use Rattle.sb_specifier.specs.Readers as specifier
 use Rattle.sb_declarator.specs.Readers as spec
 use Rattle.sb_declarator.proofs.+declaring.Given as goal

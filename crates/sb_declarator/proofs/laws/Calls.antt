@@ -21,9 +21,9 @@ use Rattle.sb_tree.specs.Trees as tree
 use Rattle.sb_tree.specs.Trees.{DeclTree, TypeTree, NoteTree, depth_of_decl, depth_of_decls, depth_of_notes, depth_of_type}
 use Rattle.sb_parse.specs.Descent.{at_second, choose_second}
 use Rattle.sb_lexicon.specs.Lexicon.{Lexicon, is_mark, is_keyword, is_type_keyword, is_type_name}
-use Rattle.sb_expr.specs.Pieces.{typed}
+use Rattle.sb_operand.specs.Pieces.{typed}
 use Rattle.sb_lexicon.specs.Tokens as expr
-use Rattle.sb_expr.specs.Readers.{begins_abstract}
+use Rattle.sb_operand.specs.Readers.{begins_abstract}
 use Rattle.sb_lexicon.specs.Tokens.{unexpected, too_deep, is_open, is_close, is_open_bracket, is_open_brace, is_qualifier}
 use Rattle.sb_expr.proofs.tokens.Bracketed.{mark_unqualified}
 use Rattle.sb_lexicon.proofs.Depths.{some_type_depth}
@@ -44,9 +44,9 @@ use Rattle.sb_specifier.specs.Readers.{Declarator, Declarations, Parts, begins_d
 use Rattle.sb_declarator.specs.Readers.{only_void, void_parameters, parameters, function_with, called}
 use Rattle.sb_specifier.proofs.laws.More.{is_suffix, has_direct, is_pointed, more_specified, more_parameter, more_last, more_parameters, FitsParameters, ParametersLaws}
 use Rattle.sb_specifier.proofs.laws.Barring.{barred_refuses, barred_then}
-use Rattle.sb_declarator.proofs.laws.Beginnings.{mark_is_no_name, name_is_no_mark}
+use Rattle.sb_derivation.proofs.laws.Beginnings.{mark_is_no_name, name_is_no_mark}
 use Rattle.sb_parse.proofs.Choices.{refused_first, Elsewhere, hiding}
-use Rattle.sb_declarator.proofs.laws.Heads.{parameters_begin, declaration_no_mark, declaration_no_name}
+use Rattle.sb_derivation.proofs.laws.Heads.{parameters_begin, declaration_no_mark, declaration_no_name}
 
 -- ---- depths
 

@@ -16,13 +16,13 @@ use Rattle.sb_sign.specs.Signs as sign
 use Rattle.sb_tree.specs.Trees.{OptionalExpr, depth_of_optional_expr, depth_of_decls}
 use Rattle.sb_expr.specs.Expression.{IsSize}
 use Rattle.sb_lexicon.specs.Lexicon.{Lexicon, is_mark, name_of, is_type_name}
-use Rattle.sb_expr.specs.Pieces.{Piece, Constant, Pointed, Arrayed, Called, Grouped, points}
+use Rattle.sb_operand.specs.Pieces.{Piece, Constant, Pointed, Arrayed, Called, Grouped, points}
 use Rattle.sb_lexicon.specs.Tokens as expr
-use Rattle.sb_expr.specs.Readers.{begins_abstract}
+use Rattle.sb_operand.specs.Readers.{begins_abstract}
 use Rattle.sb_lexicon.specs.Tokens.{unexpected, too_deep, is_zero, is_star, is_open, is_close, is_open_bracket, is_close_bracket}
 use Rattle.sb_parse.proofs.Descending.{descent_from, descent_step, descent_bottom}
 use Rattle.sb_lexicon.proofs.Lexemes.{mark_is, mark_alone, close_token, close_token_is}
-use Rattle.sb_expr.proofs.Putting.{InnerFits}
+use Rattle.sb_operand.proofs.Putting.{InnerFits}
 use Rattle.sb_parse.proofs.Ways.{first_fails, second_fails, or_false, and_first, and_second, goes_on_where, following_where, perhaps_there, choice_else, Refuses, one_refuses, both_refuse, only_else, where_begun, closing, turns_law, turned_once_more}
 use Rattle.sb_sal.specs.Spellings.{begins_note}
 use Rattle.sb_specifier.specs.Specified.{reading, is_function, is_bare}
@@ -31,8 +31,8 @@ use Rattle.sb_specifier.specs.Readers as reader
 use Rattle.sb_specifier.specs.Readers.{Declarator, Declarations, Parts, with_pieces, name_at, begins_parameter}
 use Rattle.sb_declarator.specs.Readers.{pointed, inside, begins_inner, in_parentheses, name_or_none, first, suffixed, direct, declarator_at, declarators}
 use Rattle.sb_specifier.proofs.laws.More.{is_suffix, more_pieces, more_declarator, FitsDeclarator, ParametersLaws}
-use Rattle.sb_declarator.proofs.laws.Fresh.{fresh_token, fresh_is_name, fresh_is_free, fresh_no_note}
-use Rattle.sb_declarator.proofs.laws.Beginnings.{is_nothing_by, is_nothing, begins_direct, begins_any, Empty, Begins, Starts, direct_begins, declarator_begins, head_fails, mark_no_type_name, mark_no_note, mark_is_no_name, no_more_at_close}
+use Rattle.sb_derivation.proofs.laws.Fresh.{fresh_token, fresh_is_name, fresh_is_free, fresh_no_note}
+use Rattle.sb_derivation.proofs.laws.Beginnings.{is_nothing_by, is_nothing, begins_direct, begins_any, Empty, Begins, Starts, direct_begins, declarator_begins, head_fails, mark_no_type_name, mark_no_note, mark_is_no_name, no_more_at_close}
 use Rattle.sb_parse.proofs.Choices.{unless, Allowed, only_if}
 use Rattle.sb_declarator.proofs.laws.Tokens.{are_qualifiers, has_room, from_qualifiers, are_words, from_words}
 use Rattle.sb_declarator.proofs.laws.Sizes.{ArrayedText, array_on, ArrayText, array_head}

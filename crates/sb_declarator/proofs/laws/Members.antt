@@ -34,10 +34,10 @@ use Rattle.sb_specifier.specs.Readers as reader
 use Rattle.sb_declarator.specs.Readers.{member_of, on, member_declarator, next_member, member, members}
 use Rattle.sb_specifier.specs.Readers.{Declarator, Declarations, Parts, bit_field, is_semicolon, is_close_brace, begins_declaration, specifiers}
 use Rattle.sb_specifier.proofs.laws.More.{is_suffix, more_pieces, more_specified, more_declarator, more_members, FitsDeclarator, FitsMembers, MembersLaws}
-use Rattle.sb_declarator.proofs.laws.Beginnings.{is_nothing_by, begins_any, some_begins, head_fails, mark_is_no_name}
+use Rattle.sb_derivation.proofs.laws.Beginnings.{is_nothing_by, begins_any, some_begins, head_fails, mark_is_no_name}
 use Rattle.sb_parse.proofs.Choices.{refused_first}
 use Rattle.sb_declarator.proofs.laws.Declarators.{declarators_law}
-use Rattle.sb_declarator.proofs.laws.Heads.{begins_specifier, specifiers_begin, member_begins, declaration_no_mark}
+use Rattle.sb_derivation.proofs.laws.Heads.{begins_specifier, specifiers_begin, member_begins, declaration_no_mark}
 use Rattle.sb_declarator.proofs.laws.Parameter.{after_notes, member_is, decl_fits, fits_decl}
 use Rattle.sb_specifier.proofs.laws.Specifiers.{FitsSpecifiers, specifiers_law}
 use Rattle.sb_declarator.proofs.laws.Typed.{has_its_name, declarator_no_word, typed_fits, fits_typed}

@@ -16,7 +16,7 @@ use Rattle.sb_tree.specs.Plain.{note_list}
 use Rattle.sb_tree.specs.Trees as tree
 use Rattle.sb_tree.specs.Trees.{NoteTree, DeclTree, TypeTree, depth_of_decl, depth_of_notes, depth_of_type}
 use Rattle.sb_lexicon.specs.Lexicon.{Lexicon, is_mark, name_of, is_type_name, is_type_keyword}
-use Rattle.sb_expr.specs.Pieces.{typed}
+use Rattle.sb_operand.specs.Pieces.{typed}
 use Rattle.sb_lexicon.proofs.Lexemes.{mark_is, mark_no_keyword, name_no_keyword}
 use Rattle.sb_parse.proofs.Ways.{follows_map}
 use Rattle.sb_sal.specs.declared.bearer.Bearer.TheVariants as bearer
@@ -33,9 +33,9 @@ use Rattle.sb_specifier.specs.Readers.{Declarator, Declarations, Parts, one_more
 use Rattle.sb_parse.specs.Texts.{with_text}
 use Rattle.sb_declarator.specs.Readers.{on, parameter}
 use Rattle.sb_specifier.proofs.laws.More.{more_specified, more_parameter, more_last, FitsDeclarator, MembersLaws}
-use Rattle.sb_declarator.proofs.laws.Beginnings.{mark_no_type_name}
+use Rattle.sb_derivation.proofs.laws.Beginnings.{mark_no_type_name}
 use Rattle.sb_parse.proofs.Texts.{WithText, text_law}
-use Rattle.sb_declarator.proofs.laws.Heads.{begins_specifier, specifiers_begin}
+use Rattle.sb_derivation.proofs.laws.Heads.{begins_specifier, specifiers_begin}
 use Rattle.sb_specifier.proofs.laws.Specifiers.{FitsSpecifiers, specifiers_law}
 use Rattle.sb_declarator.proofs.laws.Typed.{is_base, specified_base, more_typed, more_on, on_law, on_apart, typed_fits, fits_typed}
 

@@ -21,7 +21,7 @@ use Rattle.sb_declarator.specs.Readers.{is_full, parameter, another_parameter, n
 use Rattle.sb_specifier.proofs.laws.More.{more_last, more_parameters, FitsParameters, MembersLaws}
 use Rattle.sb_declarator.proofs.laws.Calls.{last_ends}
 use Rattle.sb_parse.proofs.Choices.{refused_first}
-use Rattle.sb_declarator.proofs.laws.Heads.{parameter_begins, declaration_no_mark}
+use Rattle.sb_derivation.proofs.laws.Heads.{parameter_begins, declaration_no_mark}
 use Rattle.sb_declarator.proofs.laws.Members.{both_deep, deep_both, one_deep, deep_one}
 use Rattle.sb_declarator.proofs.laws.Parameter.{FitsOne, parameter_law}
 

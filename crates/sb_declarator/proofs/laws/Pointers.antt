@@ -9,11 +9,11 @@ use Rattle.sb_parse.specs.Lawful.{Lawful, OnHead, Follows, Joined, Opened, Mappe
 use Rattle.sb_parse.proofs.Joining.{from_there}
 use Rattle.sb_parse.proofs.Heads.{opened, opened_heads, at_head, head_of_append}
 use Rattle.sb_lexicon.specs.Lexicon.{Lexicon}
-use Rattle.sb_expr.specs.Pieces.{Piece, Pointed, constant_if}
-use Rattle.sb_expr.specs.Readers.{begins_abstract}
+use Rattle.sb_operand.specs.Pieces.{Piece, Pointed, constant_if}
+use Rattle.sb_operand.specs.Readers.{begins_abstract}
 use Rattle.sb_lexicon.specs.Tokens.{unexpected, is_zero, is_star, is_qualifier}
 use Rattle.sb_expr.proofs.tokens.More.{behind_pointers, is_empty}
-use Rattle.sb_expr.proofs.Putting.{InnerFits}
+use Rattle.sb_operand.proofs.Putting.{InnerFits}
 use Rattle.sb_parse.proofs.Ways.{first_fails, second_fails, following_where, follows_map}
 use Rattle.sb_specifier.specs.Specified.{reading, one_if}
 use Rattle.sb_specifier.specs.Declaration.{IsDeclarator}
@@ -21,7 +21,7 @@ use Rattle.sb_specifier.specs.Readers as reader
 use Rattle.sb_specifier.specs.Readers.{Declarator, Parts, with_pieces}
 use Rattle.sb_declarator.specs.Readers.{qualifier, pointed}
 use Rattle.sb_specifier.proofs.laws.More.{is_suffix, more_pointers, more_pieces, more_declarator, FitsDeclarator}
-use Rattle.sb_declarator.proofs.laws.Beginnings.{is_nothing_by, is_nothing, begins_any, no_declarator, some_begins, unqualified, head_fails}
+use Rattle.sb_derivation.proofs.laws.Beginnings.{is_nothing_by, is_nothing, begins_any, no_declarator, some_begins, unqualified, head_fails}
 use Rattle.sb_declarator.proofs.laws.Tokens.{QualifierTexts, qualifiers_law, has_room}
 
 -- ---- where there is room for a pointer

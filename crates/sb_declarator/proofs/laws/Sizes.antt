@@ -18,7 +18,7 @@ use Rattle.sb_tree.specs.Trees as tree
 use Rattle.sb_tree.specs.Trees.{ExprTree, OptionalExpr, depth_of_optional_expr}
 use Rattle.sb_expr.specs.Expression.{Assignment, IsSize, no_size, a_size}
 use Rattle.sb_lexicon.specs.Lexicon.{Lexicon, operand_of, name_of}
-use Rattle.sb_expr.specs.Pieces.{Arrayed}
+use Rattle.sb_operand.specs.Pieces.{Arrayed}
 use Rattle.sb_expr.specs.Readers.{expr_reader}
 use Rattle.sb_lexicon.specs.Tokens.{unexpected, too_deep, is_open_bracket, is_close_bracket, begins_expr}
 use Rattle.sb_expr.specs.Reads.{FitsExpr}

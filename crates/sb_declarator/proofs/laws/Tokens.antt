@@ -1,9 +1,8 @@
 -- Readers of one token, and words that change what the tokens before them say.
 use Rattle.std.proofs.Common.{◌≡◌, ◌⊎◌, ℕ, suc, Bool, true, false, ◌||◌, ◌&&◌, not, List, [], ◌∷◌, ◌++◌, length, nat_lt, Option, Some, None, if◌then◌else◌, refl, sym, ap, ◌∙◌, subst, append_assoc, append-nil, inl, inr}
 use Rattle.sb_base.specs.declared.tokens.Token.{Token}
-use Rattle.sb_parse.specs.Parser.{Outcome, Parser, done, stop, peeked, at_next, never, and_then, pure, looped}
-use Rattle.sb_parse.specs.Lawful.{Part, Stuck, Barred, Lawful, OnHead, IsValue, Turns, over, turn}
-use Rattle.sb_parse.proofs.Joining.{never_next}
+use Rattle.sb_parse.specs.Parser.{Outcome, Parser, done, stop, never, and_then, pure, looped}
+use Rattle.sb_parse.specs.Lawful.{Lawful, OnHead, IsValue, Turns, over, turn}
 use Rattle.sb_parse.proofs.Tokens.{by_token}
 use Rattle.sb_sign.specs.declared.sign.Keyword.TheVariants as keyword
 use Rattle.sb_lexicon.specs.Lexicon.{Lexicon, is_keyword}

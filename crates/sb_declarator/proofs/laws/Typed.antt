@@ -13,14 +13,14 @@ use Rattle.sb_tree.specs.Trees as tree
 use Rattle.sb_tree.specs.Trees.{TypeTree, depth_of_type}
 use Rattle.sb_lexicon.specs.declared.words.TypeWords.{TypeWords}
 use Rattle.sb_lexicon.specs.Lexicon.{Lexicon, is_mark, is_type_keyword}
-use Rattle.sb_expr.specs.Pieces.{Piece, Constant, Pointed, Arrayed, Called, Grouped, typed, depth_over}
-use Rattle.sb_expr.specs.Readers.{begins_abstract}
+use Rattle.sb_operand.specs.Pieces.{Piece, Constant, Pointed, Arrayed, Called, Grouped, typed, depth_over}
+use Rattle.sb_operand.specs.Readers.{begins_abstract}
 use Rattle.sb_lexicon.specs.Tokens.{is_open_brace, is_qualifier}
 use Rattle.sb_lexicon.specs.Words.{Said, Nothing, Words, Whole, no_words, put, worded, said_after, number_of_words, type_said, qualified_if}
 use Rattle.sb_expr.proofs.tokens.More.{behind_pointers, is_empty}
 use Rattle.sb_lexicon.proofs.Depths.{some_type_depth}
 use Rattle.sb_lexicon.proofs.Lexemes.{mark_is, mark_alone}
-use Rattle.sb_expr.proofs.Putting.{InnerFits, typed_depth, over_count, over_inner, over_fits}
+use Rattle.sb_operand.proofs.Putting.{InnerFits, typed_depth, over_count, over_inner, over_fits}
 use Rattle.sb_parse.proofs.Ways.{first_fails, second_fails, or_false, following_where}
 use Rattle.sb_specifier.specs.declared.seat.Seat.{Seat}
 use Rattle.sb_specifier.specs.Specified.{reading, Specified, unspecified, base_of, names_tag}
@@ -29,7 +29,7 @@ use Rattle.sb_specifier.specs.Readers as reader
 use Rattle.sb_specifier.specs.Readers.{Declarator, Parts, is_storage_keyword}
 use Rattle.sb_declarator.specs.Readers.{declarators}
 use Rattle.sb_specifier.proofs.laws.More.{is_suffix, has_direct, is_pointed, more_specified, more_nameless, more_pieces, more_declarator, FitsDeclarator, ParametersLaws}
-use Rattle.sb_declarator.proofs.laws.Beginnings.{is_nothing_by, is_nothing, begins_any, no_declarator, some_begins, unworded, head_fails, mark_is_no_name}
+use Rattle.sb_derivation.proofs.laws.Beginnings.{is_nothing_by, is_nothing, begins_any, no_declarator, some_begins, unworded, head_fails, mark_is_no_name}
 use Rattle.sb_declarator.proofs.laws.Declarators.{declarators_law}
 
 -- ---- what stands outermost

@@ -1,16 +1,19 @@
 -- Declarators with room for so many pieces, by those with less room.
-use Rattle.std.proofs.Common.{◌≡◌, ◌≤◌, ◌<◌, ◌-◌, ◌&&◌, ℕ, length, zero, suc, Bool, true, false, List, ◌∷◌, nat_lt, refl, ap, ◌∙◌, arith}
+use Rattle.std.proofs.Common.{◌≡◌, ◌≤◌, ◌<◌, ◌-◌, ◌&&◌, ℕ, length, zero, suc, Bool, true, false, List, ◌∷◌, nat_lt, refl, sym, ap, ◌∙◌, arith}
+use Rattle.sb_base.specs.declared.refusals.Place.{Place}
 use Rattle.sb_base.specs.declared.tokens.Token.{Token}
-use Rattle.sb_parse.specs.Parser.{Parser, done, and_then, at_next, ◌>>=◌, pure, refuse, token, choose, guard, looped}
+use Rattle.sb_parse.specs.Parser.{Outcome, Parser, done, stop, and_then, at_next, ◌>>=◌, pure, refuse, token, choose, guard, looped}
 use Rattle.sb_sign.specs.declared.sign.Keyword.TheVariants as keyword
 use Rattle.sb_tree.specs.Plain.{decl_list}
+use Rattle.sb_tree.specs.Trees.{OptionalExpr}
 use Rattle.sb_parse.specs.Descent.{descent}
 use Rattle.sb_lexicon.specs.Lexicon.{Lexicon, is_keyword}
-use Rattle.sb_expr.specs.Parts as qualifiers
-use Rattle.sb_expr.specs.Pieces.{Pointed, Arrayed, Called, Grouped, constant_if}
-use Rattle.sb_expr.specs.Readers.{one_if}
+use Rattle.sb_operand.specs.Readers as qualifiers
+use Rattle.sb_operand.specs.Pieces.{Pointed, Arrayed, Called, Grouped, constant_if}
+use Rattle.sb_operand.specs.Readers.{one_if}
 use Rattle.sb_lexicon.specs.Tokens.{unexpected, too_deep, volatile, is_zero, is_star, is_open, is_close, is_qualifier, is_open_bracket, is_close_bracket}
 use Rattle.sb_parse.proofs.Descending.{descent_from}
+use Rattle.sb_derivation.specs.Declarators.{array_piece}
 use Rattle.sb_declarator.specs.Declarators as part
 use Rattle.sb_specifier.specs.Sizes.{array_size}
 use Rattle.sb_declarator.specs.Declarators.{rest_of, roomy}
@@ -57,14 +60,30 @@ module _ (w : Lexicon) (functions may_lack : Bool) (below : ℕ) where
       (refuse volatile))) false >>= (λ c. rest (one_if c) >>= (λ d. pure (with_pieces (Pointed t.place ∷ constant_if c d.pieces) d))))) ts)
       (λ i. λ k. lower room k some i)
 
+  closed : (d : Declarator) (place : Place) (e : OptionalExpr) (o : Outcome Token Token)
+      → and_then (and_then o (λ c. pure (Arrayed e place))) (λ p. pure (with_pieces (p ∷ d.pieces) d)) ≡ and_then o (λ c. pure (with_pieces (Arrayed e place ∷ d.pieces) d))
+  closed d place e (done c rest) = refl
+  closed d place e (stop n left) = refl
+
+  sized_then : (d : Declarator) (place : Place) (o : Outcome Token OptionalExpr)
+      → and_then (and_then o (λ e. token unexpected (is_close_bracket w) >>= (λ c. pure (Arrayed e place)))) (λ p. pure (with_pieces (p ∷ d.pieces) d))
+      ≡ and_then o (λ e. token unexpected (is_close_bracket w) >>= (λ c. pure (with_pieces (Arrayed e place ∷ d.pieces) d)))
+  sized_then d place (done e rest) = closed d place e (token unexpected (is_close_bracket w) rest)
+  sized_then d place (stop n left) = refl
+
+  opened_then : (count : ℕ) (outermost : Bool) (d : Declarator) (o : Outcome Token Token)
+      → and_then (and_then o (λ t. array_size w outermost below count >>= (λ e. token unexpected (is_close_bracket w) >>= (λ c. pure (Arrayed e t.place))))) (λ p. pure (with_pieces (p ∷ d.pieces) d))
+      ≡ and_then o (λ t. array_size w outermost below count >>= (λ e. token unexpected (is_close_bracket w) >>= (λ c. pure (with_pieces (Arrayed e t.place ∷ d.pieces) d))))
+  opened_then count outermost d (done t rest) = sized_then d t.place (array_size w outermost below count rest)
+  opened_then count outermost d (stop n left) = refl
+
   -- an array under so many pieces
-  pub arrayed_at : (room count : ℕ) (d : Declarator) (outermost : Bool) (ts : List Token) (o : Token) (mid : List Token) → length d.pieces ≡ count → outermost ≡ (may_lack && is_bare d.pieces) → count < room
-      → token unexpected (is_open_bracket w) ts ≡ done o mid
-      → roomy arrayed w functions may_lack below room d ts ≡ and_then (array_size w outermost below count mid) (λ e. token unexpected (is_close_bracket w) >>= (λ c. pure (with_pieces (Arrayed e o.place ∷ d.pieces) d)))
+  pub arrayed_at : (room count : ℕ) (d : Declarator) (outermost : Bool) (ts : List Token) → length d.pieces ≡ count → outermost ≡ (may_lack && is_bare d.pieces) → count < room
+      → roomy arrayed w functions may_lack below room d ts ≡ and_then (array_piece w outermost below count ts) (λ p. pure (with_pieces (p ∷ d.pieces) d))
   unfolding arrayed sized size size_word outermost_size
-  arrayed_at room count d outermost ts o mid counted out few opened =
+  arrayed_at room count d outermost ts counted out few =
       let free : nat_lt room (suc count) ≡ false = grind (arith, few) in
-      rw (counted, free, opened, out) refl
+      rw (counted, free, out) (sym (opened_then count (may_lack && is_bare d.pieces) d (token unexpected (is_open_bracket w) ts)))
 
   -- a function under so many pieces
   pub called_at : (room count : ℕ) (d : Declarator) (ts : List Token) (o : Token) (mid : List Token) → length d.pieces ≡ count → is_bare d.pieces ≡ true → count < room → token unexpected (is_open w) ts ≡ done o mid

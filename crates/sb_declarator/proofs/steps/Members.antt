@@ -1,29 +1,34 @@
 -- Readers of specifiers and members behind the first steps of each.
-use Rattle.std.proofs.Common.{◌≡◌, ℕ, ◌-◌, false, List, [], ◌∷◌, ◌++◌, length, Option, None, Some, if◌then◌else◌, refl, ap, sym, ◌∙◌, subst}
+use Rattle.std.proofs.Common.{◌≡◌, ℕ, ◌-◌, ◌&&◌, true, false, List, [], ◌∷◌, ◌++◌, length, Option, None, Some, if◌then◌else◌, refl, ap, sym, ◌∙◌, subst}
 use Rattle.sb_base.specs.declared.interning.Name.{Name}
 use Rattle.sb_base.specs.declared.tokens.Token.{Token}
-use Rattle.sb_parse.specs.Parser.{Outcome, done, stop, at_next, and_then, ◌>>=◌, pure, token, looped}
+use Rattle.sb_parse.specs.Parser.{Outcome, done, stop, at_next, and_then, pure, token, looped}
 use Rattle.sb_tree.specs.Trees.{TypeTree, NoteTree, DeclTree, depth_of_type}
 use Rattle.sb_lexicon.specs.declared.reading.ReadFault.{ReadFault}
 use Rattle.sb_lexicon.specs.declared.reading.ReadFault.TheVariants.{Refused, Memory}
+use Rattle.sb_sign.specs.declared.sign.Keyword.TheVariants as keyword
+use Rattle.sb_lexicon.specs.Lexicon.{is_keyword}
+use Rattle.sb_lexicon.specs.Words.{Nothing, is_nothing}
 use Rattle.sb_lexicon.specs.Meaning.{stop_number, IsFault, StopsAt}
 use Rattle.sb_lexicon.specs.Tokens.{unexpected, is_comma, is_colon}
+use Rattle.sb_parse.proofs.Choices.{and_then_assoc}
 use Rattle.sb_lexicon.proofs.Loops.{fault_first}
 use Rattle.sb_sal.specs.declared.bearer.Bearer.TheVariants as bearer
 use Rattle.sb_sal.specs.Readers.{notes_reader}
 use Rattle.sb_sal.specs.Spellings.{may_stand}
-use Rattle.sb_declarator.specs.declared.members.Heading.{Heading}
+use Rattle.sb_derivation.specs.declared.members.Heading.{Heading}
 use Rattle.sb_specifier.specs.declared.seat.Seat.{Seat}
 use Rattle.sb_specifier.specs.declared.seat.Seat.TheVariants as seat
 use Rattle.sb_specifier.specs.Declaration.{nowhere}
+use Rattle.sb_derivation.specs.Parts.{notes_at, simple_decl}
 use Rattle.sb_declarator.specs.Meaning.{nested, inside, heading_members}
 use Rattle.sb_specifier.specs.Meaning.{type_in, plain_later}
 use Rattle.sb_specifier.specs.Parts.{completed}
 use Rattle.sb_declarator.specs.Parts as part
 use Rattle.sb_specifier.specs.Readers as spec
-use Rattle.sb_specifier.specs.Readers.{Declarator, Declarations, Parts, bit_field, is_specifier_word, specified, keyword_specifiers, defined, specifiers}
+use Rattle.sb_specifier.specs.Readers.{Declarator, Declarations, Parts, bit_field, is_specifier_word, tagged, structure, specified, keyword_specifiers, defined, specifiers}
 use Rattle.sb_declarator.specs.Readers.{parts, declarators, member, next_member, member_declarator}
-use Rattle.sb_specifier.specs.Specified.{Specified, reading, unspecified, base_of, again}
+use Rattle.sb_specifier.specs.Specified.{Specified, reading, unspecified, saying, base_of, again}
 
 -- a stop of a reader, and the fault that says so
 pub stops_is : {A : Type 0} (o : Outcome Token A) (n left : ℕ) (e : ReadFault) → o ≡ stop n left → StopsAt n left e → IsFault o e
@@ -42,20 +47,32 @@ pub specifiers_at : (texts : List (List ℕ)) (at : Seat) (below : ℕ) (types :
 unfolding specifiers keyword_specifiers
 specifiers_at texts at below types ts s later mid rest words all = rw (words, all) (same_completed texts at below (parts texts below) later (base_of later) rest)
 
+-- a structure does not look at what the specifiers before it say of a type
+pub structure_first : (texts : List (List ℕ)) (at : Seat) (below : ℕ) (s u : Specified) (ts : List Token)
+    → at_next (λ t. is_keyword (reading texts s.types) keyword.Struct t && is_nothing s.said) ts ≡ true → u ≡ saying Nothing s → nested specified texts at below s ts ≡ part.tagged_structure texts below u ts
+unfolding specified tagged structure
+structure_first texts at below s u ts first same = rw (same, first) refl
+
 -- ---- members
 
 pub member_declarator_at : (texts : List (List ℕ)) (below room : ℕ) (notes : List NoteTree) (types : List Name) (base : TypeTree) (ts : List Token) (d : Declarator) (rest : List Token)
     → at_next (is_colon (reading texts types)) ts ≡ false → room ≡ below - depth_of_type base → declarators (reading texts types) false false below (parts texts below) room 0 ts ≡ done d rest
-    → part.member_declarator texts below notes types base ts ≡ (if at_next (is_colon (reading texts types)) rest then stop bit_field (length rest) else done (part.simple_decl notes base d nowhere) rest)
+    → part.member_declarator texts below notes types base ts ≡ (if at_next (is_colon (reading texts types)) rest then stop bit_field (length rest) else done (simple_decl notes base d nowhere) rest)
 member_declarator_at texts below room notes types base ts d rest none is read = rw (none, sym is, read) refl
 
-pub next_member_at : (texts : List (List ℕ)) (below : ℕ) (h : Heading) (notes : List NoteTree) (base : TypeTree) (ds : List DeclTree) (ts : List Token) (comma : Token) (mid : List Token)
-    → token unexpected (is_comma (reading texts h.types.now)) ts ≡ done comma mid → part.notes_at texts h.outer.now bearer.Member below h.noted.now ≡ notes → base ≡ plain_later h.later
-    → heading_members part.next_member texts below h ds ts ≡ and_then (part.member_declarator texts below notes h.types.now base mid) (λ d. pure (ds ++ (d ∷ [])))
-next_member_at texts below h notes base ds ts comma mid read noted is =
-    ap (λ o. and_then o (λ t. part.member_declarator texts below (part.notes_at texts h.outer.now bearer.Member below h.noted.now) h.types.now (plain_later h.later) >>= (λ d. pure (ds ++ (d ∷ []))))) read
-    ∙ ap (λ l. and_then (part.member_declarator texts below l h.types.now (plain_later h.later) mid) (λ d. pure (ds ++ (d ∷ [])))) noted
-    ∙ ap (λ t. and_then (part.member_declarator texts below notes h.types.now t mid) (λ d. pure (ds ++ (d ∷ [])))) (sym is)
+pub later_member_at : (texts : List (List ℕ)) (below : ℕ) (h : Heading) (notes : List NoteTree) (base : TypeTree) (ts : List Token) (comma : Token) (mid : List Token)
+    → token unexpected (is_comma (reading texts h.types.now)) ts ≡ done comma mid → notes_at texts h.outer.now bearer.Member below h.noted.now ≡ notes → base ≡ plain_later h.later
+    → heading_members part.later_member texts below h ts ≡ part.member_declarator texts below notes h.types.now base mid
+later_member_at texts below h notes base ts comma mid read noted is =
+    ap (λ o. and_then o (λ t. part.member_declarator texts below (notes_at texts h.outer.now bearer.Member below h.noted.now) h.types.now (plain_later h.later))) read
+    ∙ ap (λ l. part.member_declarator texts below l h.types.now (plain_later h.later) mid) noted
+    ∙ ap (λ t. part.member_declarator texts below notes h.types.now t mid) (sym is)
+
+-- one more member behind those before it
+pub one_more_member : (texts : List (List ℕ)) (below : ℕ) (h : Heading) (ds : List DeclTree) (ts : List Token)
+    → heading_members part.next_member texts below h ds ts ≡ and_then (heading_members part.later_member texts below h ts) (λ d. pure (ds ++ (d ∷ [])))
+one_more_member texts below h ds ts =
+    sym (and_then_assoc (token unexpected (is_comma (reading texts h.types.now)) ts) (λ t. part.member_declarator texts below (notes_at texts h.outer.now bearer.Member below h.noted.now) h.types.now (plain_later h.later)) (λ d. pure (ds ++ (d ∷ []))))
 
 module _ (texts : List (List ℕ)) (below : ℕ) (ds : Declarations) (ts : List Token) (notes : List NoteTree) (mid : List Token)
     (noted : notes_reader (reading texts ds.types) below (may_stand (reading texts ds.types) bearer.Member) ts ≡ done notes mid) where

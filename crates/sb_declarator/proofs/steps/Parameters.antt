@@ -1,6 +1,5 @@
 -- The parts of the readers of parameters.
-use Rattle.std.proofs.Common.{◌≡◌, ◌≤◌, ◌-◌, ◌+◌, ℕ, zero, suc, true, false, List, [], ◌∷◌, ◌++◌, length, take, drop, refl, sym, ap, ◌∙◌, arith, length-append}
-use Rattle.std.proofs.Math.Seq.{drop-append_seam}
+use Rattle.std.proofs.Common.{◌≡◌, ◌≤◌, ◌-◌, ◌+◌, ℕ, zero, suc, true, false, List, [], ◌∷◌, ◌++◌, length, take, refl, sym, ap, ◌∙◌, arith}
 use Rattle.sb_base.specs.declared.interning.Name.{Name}
 use Rattle.sb_base.specs.declared.tokens.Token.{Token}
 use Rattle.sb_base.specs.declared.refusals.Place.{Place}
@@ -11,27 +10,17 @@ use Rattle.sb_tree.specs.Trees.{NoteTree, TypeTree, DeclTree, depth_of_type}
 use Rattle.sb_lexicon.specs.Lexicon.{Lexicon}
 use Rattle.sb_parse.specs.Descent.{descent}
 use Rattle.sb_parse.proofs.Descending.{descent_from, descent_step}
-use Rattle.sb_expr.proofs.Leaving.{Ends}
 use Rattle.sb_sal.specs.declared.bearer.Bearer.TheVariants as bearer
 use Rattle.sb_sal.specs.Readers.{notes_reader}
 use Rattle.sb_sal.specs.Spellings.{may_stand}
-use Rattle.sb_sal.proofs.Leaving.{notes_leave}
 use Rattle.sb_specifier.specs.declared.seat.Seat.TheVariants as seat
-use Rattle.sb_declarator.specs.Declarators.{IsEnd, first_in, first_of, hidden_by, parameter_behind}
+use Rattle.sb_derivation.specs.Declarators.{first_in, first_of, hidden_by}
+use Rattle.sb_declarator.specs.Declarators.{parameter_behind}
 use Rattle.sb_declarator.specs.Meaning.{nested, inside}
-use Rattle.sb_declarator.specs.Parts.{simple_decl}
+use Rattle.sb_derivation.specs.Parts.{simple_decl}
 use Rattle.sb_specifier.specs.Specified.{Specified, reading}
 use Rattle.sb_specifier.specs.Readers.{Declarator, Declarations, Parts, specifiers}
 use Rattle.sb_declarator.specs.Readers.{parts, no_parts, parts_at, declarators, parameter, parameters_at, first_place}
-
-end_of : (ts rest : List Token) → Ends ts rest → IsEnd ts rest
-end_of ts rest e =
-    let all : length ts ≡ length e.front + length rest = ap length e.split ∙ length-append e.front rest in
-    let count : length ts - length rest ≡ length e.front = omega (arith, all) in
-    (omega (arith, all), ap (λ n. drop n ts) count ∙ ap (drop (length e.front)) e.split ∙ drop-append_seam e.front rest)
-
-pub notes_end : (w : Lexicon) (below : ℕ) (ts : List Token) (ns : List NoteTree) (rest : List Token) → notes_reader w below (may_stand w bearer.Parameter) ts ≡ done ns rest → IsEnd ts rest
-notes_end w below ts ns rest read = end_of ts rest ((notes_leave w below bearer.Parameter).ends ts ns rest read)
 
 pub first_place_in : (texts : List (List ℕ)) (below : ℕ) (part : ℕ → Parts) (ts : List Token) → first_place texts below part ts ≡ first_in ts
 first_place_in texts below part [] = refl

@@ -9,7 +9,7 @@ use Rattle.sb_tree.specs.Trees as tree
 use Rattle.sb_parse.specs.Descent.{descent}
 use Rattle.sb_expr.specs.Expression.{Assignment}
 use Rattle.sb_lexicon.specs.Lexicon.{Lexicon, is_keyword, is_type_name}
-use Rattle.sb_expr.specs.Pieces.{points}
+use Rattle.sb_operand.specs.Pieces.{points}
 use Rattle.sb_lexicon.specs.Tokens as expr
 use Rattle.sb_expr.specs.Readers.{expr_reader}
 use Rattle.sb_lexicon.specs.Tokens.{unexpected, is_zero, is_star, is_open, is_close, is_open_bracket, is_close_bracket, is_qualifier}

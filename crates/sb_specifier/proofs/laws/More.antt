@@ -8,11 +8,11 @@ use Rattle.sb_tree.specs.Plain.{decl_list}
 use Rattle.sb_tree.specs.Trees as tree
 use Rattle.sb_tree.specs.Trees.{TypeTree, DeclTree, depth_of_decls}
 use Rattle.sb_lexicon.specs.Lexicon.{Lexicon}
-use Rattle.sb_expr.specs.Pieces.{Piece}
-use Rattle.sb_expr.specs.Readers.{begins_abstract}
+use Rattle.sb_operand.specs.Pieces.{Piece}
+use Rattle.sb_operand.specs.Readers.{begins_abstract}
 use Rattle.sb_lexicon.specs.Tokens.{is_comma, is_open, is_open_bracket, is_open_brace, is_qualifier}
 use Rattle.sb_expr.proofs.tokens.More.{behind_pointers, is_empty}
-use Rattle.sb_expr.proofs.Putting.{InnerFits}
+use Rattle.sb_operand.proofs.Putting.{InnerFits}
 use Rattle.sb_specifier.specs.Specified.{reading, names_tag}
 use Rattle.sb_specifier.specs.Declaration.{IsDeclarator, AreMembers, AreSome}
 use Rattle.sb_specifier.specs.Readers.{Declarator, Declarations, Parts, is_name, is_close_brace, is_specifier_word}

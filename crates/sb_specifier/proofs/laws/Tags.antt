@@ -14,7 +14,7 @@ use Rattle.sb_tree.specs.Plain.{decl_list, item_list, note_list}
 use Rattle.sb_tree.specs.Trees as tree
 use Rattle.sb_tree.specs.Trees.{TypeTree, DeclTree, NoteTree, depth_of_notes, depth_of_type, depth_of_decl, depth_of_decls}
 use Rattle.sb_lexicon.specs.Lexicon.{Lexicon, is_keyword}
-use Rattle.sb_expr.specs.Pieces.{typed}
+use Rattle.sb_operand.specs.Pieces.{typed}
 use Rattle.sb_lexicon.specs.Tokens.{unexpected, too_deep, is_open_brace}
 use Rattle.sb_lexicon.specs.Words.{Whole, is_nothing}
 use Rattle.sb_lexicon.proofs.Depths.{some_type_depth, within_room}

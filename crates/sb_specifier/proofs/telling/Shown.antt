@@ -8,7 +8,7 @@ use Rattle.sb_sign.specs.declared.sign.Keyword.{Keyword}
 use Rattle.sb_sign.specs.declared.sign.Keyword.TheVariants as keyword
 use Rattle.sb_lexicon.specs.Lexicon.{Lexicon, is_keyword, is_type_keyword, is_type_word, is_type_name, begins_type}
 use Rattle.sb_lexicon.specs.Tokens as expr
-use Rattle.sb_expr.specs.Readers.{begins_abstract}
+use Rattle.sb_operand.specs.Readers.{begins_abstract}
 use Rattle.sb_lexicon.specs.SpecifierReaders.{is_floating, is_complex, is_union, may_be_floating}
 use Rattle.sb_lexicon.specs.Tokens.{unexpected, too_deep, unknown, misplaced, is_open_brace}
 use Rattle.sb_lexicon.specs.Words.{Said, Nothing, is_nothing}

@@ -4,8 +4,8 @@ ghost use Rattle.sb_parse.specs.Parser.{at_next};
 ghost use Rattle.sb_parse.specs.Descent.{at_second};
 ghost use Rattle.sb_lexicon.specs.Meaning.{meant};
 ghost use Rattle.sb_lexicon.specs.Tokens as expr;
-ghost use Rattle.sb_declarator.specs.Declarators as part;
-ghost use Rattle.sb_declarator.specs.Meaning.{plain_declarations, AreKnown, ReadsDeclarations};
+ghost use Rattle.sb_derivation.specs.Declarators as part;
+ghost use Rattle.sb_derivation.specs.Meaning.{plain_declarations, AreKnown, ReadsDeclarations};
 
 use crate::declarator::is_plain_name;
 use crate::members::Declarations;
@@ -38,7 +38,7 @@ fn is_void_continued(lexicon: &Lexicon, tokens: &[Token]) -> bool
 }
 
 /// Whether the next token closes the parentheses or is a name that is no type and no annotation.
-pub(crate) fn is_old_next(lexicon: &Lexicon, tokens: &[Token]) -> bool
+pub fn is_old_next(lexicon: &Lexicon, tokens: &[Token]) -> bool
     ensures { result ≡ at_next (part.begins_old (meant lexicon.now)) tokens.now }
 {
     match tokens.first() {
@@ -50,7 +50,7 @@ pub(crate) fn is_old_next(lexicon: &Lexicon, tokens: &[Token]) -> bool
 }
 
 /// Whether the token after the next one closes the parentheses.
-pub(crate) fn is_close_second(lexicon: &Lexicon, tokens: &[Token]) -> bool
+pub fn is_close_second(lexicon: &Lexicon, tokens: &[Token]) -> bool
     ensures { result ≡ at_second (expr.is_close (meant lexicon.now)) tokens.now }
 {
     match tokens.split_first() {
@@ -60,7 +60,8 @@ pub(crate) fn is_close_second(lexicon: &Lexicon, tokens: &[Token]) -> bool
 }
 
 fn no_parameters(alloc: Global, lexicon: &Lexicon) -> Result<Declarations, AllocError>
-    ensures list { IfOk result (λ ds. plain_declarations ds ≡ part.no_parameters (meant lexicon.now)) }
+    ensures list { IfOk result
+        (λ ds. plain_declarations ds ≡ part.no_parameters (meant lexicon.now)) }
     ensures known { IfOk result (λ ds. AreKnown ds) }
     ensures depth { IfOk result (λ ds. ds.depth ≡ 0) }
 {
@@ -96,7 +97,7 @@ fn behind_void<'a>(
 }
 
 /// `void` alone, where no parameter has room.
-pub(crate) fn only_void<'a>(
+pub fn only_void<'a>(
     alloc: Global,
     lexicon: &Lexicon,
     tokens: &'a [Token],
@@ -112,7 +113,7 @@ pub(crate) fn only_void<'a>(
 }
 
 /// `void` before the closing parenthesis.
-pub(crate) fn void_parameters<'a>(
+pub fn void_parameters<'a>(
     alloc: Global,
     lexicon: &Lexicon,
     tokens: &'a [Token],

@@ -1,5 +1,5 @@
 use Rattle.std.proofs.Common.{length}
-use Rattle.sb_declarator.proofs.declarator.+is_bare.Given as goal
+use Rattle.sb_derivation.proofs.declarator.+is_bare.Given as goal
 
 abbrev pub decreases-is_bare : goal.decreases-is_bare
 decreases-is_bare l = length l.list.now

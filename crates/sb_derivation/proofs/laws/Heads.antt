@@ -26,7 +26,7 @@ use Rattle.sb_specifier.specs.Specified.{reading, Specified, unspecified, storag
 use Rattle.sb_specifier.specs.Declaration.{IsTag, is_untagged, is_tagged, IsSpecifier, is_word, is_constant, is_restricted, is_inline, is_stored, is_defined, names_structure, names_enumeration, defines_structure, defines_enumeration, AreSpecifiers, no_specifiers, more_specifiers, IsParameter, is_parameter, AreSome, first_parameter, parameter_behind, IsMember, is_member}
 use Rattle.sb_specifier.specs.Readers as reader
 use Rattle.sb_specifier.specs.Readers.{Declarations, begins_declaration, is_specifier_word, is_storage_word, is_storage_keyword}
-use Rattle.sb_declarator.proofs.laws.Beginnings.{mark_no_type_name, mark_no_note}
+use Rattle.sb_derivation.proofs.laws.Beginnings.{mark_no_type_name, mark_no_note}
 
 -- ---- words of types and of storage
 

@@ -1,17 +1,17 @@
 //! What a declarator makes of a type, and what a declarator begins and goes on with (C99 6.7.5).
 ghost use Rattle.std.specs.Prelude.{◌≡◌, ◌≤◌, ◌+◌, [], ◌∷◌, ◌&&◌, length, max, IfOk, None};
 ghost use Rattle.sb_parse.specs.Parser.{at_next};
-ghost use Rattle.sb_expr.specs.Meaning.{plain_piece, plain_pieces, depth_of_piece};
+ghost use Rattle.sb_operand.specs.Meaning.{plain_piece, plain_pieces, depth_of_piece};
 ghost use Rattle.sb_lexicon.specs.Meaning.{meant};
-ghost use Rattle.sb_expr.specs.Pieces as pieces;
-ghost use Rattle.sb_expr.specs.Readers as expr;
-ghost use Rattle.sb_declarator.specs.Declarators.{IsDeep, IsSized, ReadsDeclarator};
-ghost use Rattle.sb_declarator.specs.Declarators as part;
+ghost use Rattle.sb_operand.specs.Pieces as pieces;
+ghost use Rattle.sb_operand.specs.Readers as expr;
+ghost use Rattle.sb_derivation.specs.Declarators.{IsDeep, IsSized, ReadsDeclarator};
+ghost use Rattle.sb_derivation.specs.Declarators as part;
 ghost use Rattle.sb_specifier.specs.Specified as specified;
 
 use sb_base::{Name, Place, Token};
-use sb_expr::{Piece, Pieces, pointing};
 use sb_lexicon::{Lexicon, Read, ReadFault, is_mark, is_type_name, name_of};
+use sb_operand::{Piece, Pieces, pointing};
 use sb_sal::begins_note;
 use sb_sign::Mark;
 use sb_specifier::{begins_parameter, is_name_next, take_name};
@@ -30,7 +30,7 @@ pub struct Declarator {
 
 impl Declarator {
     /// A name, or none.
-    pub(crate) fn new(alloc: Global, name: Option<(Name, Place)>) -> Declarator
+    pub fn new(alloc: Global, name: Option<(Name, Place)>) -> Declarator
         ensures pieces { result.pieces.items ≡ [] }
         ensures depth { result.depth ≡ 0 }
         ensures name { result.name ≡ name }
@@ -45,16 +45,19 @@ impl Declarator {
     }
 
     /// With one more piece, in which something of this depth stands.
-    pub(crate) fn with(self, piece: Piece, size: u32) -> Result<Declarator, AllocError>
+    pub fn with(self, piece: Piece, size: u32) -> Result<Declarator, AllocError>
         requires known { IsDeep self }
         requires size { size ≡ depth_of_piece (plain_piece piece) }
         requires few { length self.pieces.items ≤ 200 }
         requires shallow { size ≤ 200 }
-        ensures list { IfOk result (λ d. plain_pieces d.pieces.items ≡ plain_piece piece ∷ plain_pieces self.pieces.items) }
+        ensures list { IfOk result
+            (λ d. plain_pieces d.pieces.items ≡ plain_piece piece
+            ∷ plain_pieces self.pieces.items) }
         ensures name { IfOk result (λ d. d.name ≡ self.name) }
         ensures inner { IfOk result (λ d. d.inner ≡ self.inner) }
         ensures known { IfOk result (λ d. IsDeep d) }
-        ensures depth { IfOk result (λ d. d.depth ≡ max self.depth (size + 1 + length self.pieces.items)) }
+        ensures depth { IfOk result
+            (λ d. d.depth ≡ max self.depth (size + 1 + length self.pieces.items)) }
         ensures length { IfOk result (λ d. length d.pieces.items ≡ length self.pieces.items + 1) }
     {
         let nothing: &[Token] = &[];
@@ -73,16 +76,20 @@ impl Declarator {
     }
 
     /// With a pointer, which may be constant, before its pieces.
-    pub(crate) fn pointing(self, constant: bool, place: Place) -> Result<Declarator, AllocError>
+    pub fn pointing(self, constant: bool, place: Place) -> Result<Declarator, AllocError>
         requires known { IsDeep self }
         requires few { length self.pieces.items ≤ 200 }
         requires shallow { self.depth ≤ 300 }
-        ensures list { IfOk result (λ d. plain_pieces d.pieces.items ≡ pieces.Pointed place ∷ pieces.constant_if constant (plain_pieces self.pieces.items)) }
+        ensures list { IfOk result
+            (λ d. plain_pieces d.pieces.items ≡ pieces.Pointed place
+            ∷ pieces.constant_if constant (plain_pieces self.pieces.items)) }
         ensures name { IfOk result (λ d. d.name ≡ self.name) }
         ensures inner { IfOk result (λ d. d.inner ≡ self.inner) }
         ensures known { IfOk result (λ d. IsDeep d) }
-        ensures depth { IfOk result (λ d. d.depth ≡ max self.depth (expr.one_if constant + 1 + length self.pieces.items)) }
-        ensures length { IfOk result (λ d. length d.pieces.items ≡ length self.pieces.items + 1 + expr.one_if constant) }
+        ensures depth { IfOk result
+            (λ d. d.depth ≡ max self.depth (expr.one_if constant + 1 + length self.pieces.items)) }
+        ensures length { IfOk result
+            (λ d. length d.pieces.items ≡ length self.pieces.items + 1 + expr.one_if constant) }
     {
         let nothing: &[Token] = &[];
         let before = Pieces {
@@ -110,8 +117,8 @@ impl Declarator {
 // ---- what lies on pieces
 
 /// Whether what lies directly on these pieces is a function.
-#[tactic(auto, using(sb_expr::proofs::Lists::one_more_piece))]
-pub(crate) fn is_function(list: &[Piece]) -> bool
+#[tactic(auto, using(sb_operand::proofs::Lists::one_more_piece))]
+pub fn is_function(list: &[Piece]) -> bool
     ensures { result ≡ specified.is_function (plain_pieces list.now) }
 {
     match list.split_last() {
@@ -122,8 +129,8 @@ pub(crate) fn is_function(list: &[Piece]) -> bool
 }
 
 /// Whether there are only parentheses.
-#[tactic(auto, using(sb_expr::proofs::Lists::one_more_piece))]
-pub(crate) fn is_bare(list: &[Piece]) -> bool
+#[tactic(auto, using(sb_operand::proofs::Lists::one_more_piece))]
+pub fn is_bare(list: &[Piece]) -> bool
     ensures { result ≡ specified.is_bare (plain_pieces list.now) }
 {
     match list.split_last() {
@@ -134,7 +141,7 @@ pub(crate) fn is_bare(list: &[Piece]) -> bool
 }
 
 /// Whether the last piece that is no parenthesis makes a function.
-#[tactic(auto, using(sb_expr::proofs::Lists::one_more_piece))]
+#[tactic(auto, using(sb_operand::proofs::Lists::one_more_piece))]
 fn makes_function(list: &[Piece]) -> bool
     ensures { result ≡ specified.declares_function (plain_pieces list.now) }
 {
@@ -156,7 +163,7 @@ pub(crate) fn is_plain_name(lexicon: &Lexicon, token: &Token) -> bool
 }
 
 /// Whether a declarator begins behind the parenthesis of a parameter.
-pub(crate) fn is_inner_next(lexicon: &Lexicon, tokens: &[Token]) -> bool
+pub fn is_inner_next(lexicon: &Lexicon, tokens: &[Token]) -> bool
     ensures { result ≡ at_next (part.begins_inner (meant lexicon.now)) tokens.now }
 {
     match tokens.first() {
@@ -171,7 +178,7 @@ pub(crate) fn is_inner_next(lexicon: &Lexicon, tokens: &[Token]) -> bool
 }
 
 /// Whether the next token closes the parentheses or begins a parameter.
-pub(crate) fn is_parameter_next(lexicon: &Lexicon, tokens: &[Token]) -> bool
+pub fn is_parameter_next(lexicon: &Lexicon, tokens: &[Token]) -> bool
     ensures { result ≡ at_next (part.goes_on_parameters (meant lexicon.now)) tokens.now }
 {
     match tokens.first() {
@@ -183,7 +190,7 @@ pub(crate) fn is_parameter_next(lexicon: &Lexicon, tokens: &[Token]) -> bool
 }
 
 /// Whether an array or a function comes next.
-pub(crate) fn is_suffix_next(lexicon: &Lexicon, tokens: &[Token]) -> bool
+pub fn is_suffix_next(lexicon: &Lexicon, tokens: &[Token]) -> bool
     ensures { result ≡ at_next (part.is_suffix (meant lexicon.now)) tokens.now }
 {
     match tokens.first() {
@@ -198,13 +205,14 @@ pub(crate) fn is_suffix_next(lexicon: &Lexicon, tokens: &[Token]) -> bool
 // ---- readers
 
 /// The name, which a parameter may lack.
-pub(crate) fn name_or_none<'a>(
+pub fn name_or_none<'a>(
     alloc: Global,
     lexicon: &Lexicon,
     may_lack: bool,
     tokens: &'a [Token],
 ) -> Result<Read<'a, Declarator>, ReadFault>
-    ensures read { ReadsDeclarator lexicon.now.types.now (part.name_or_none (meant lexicon.now) may_lack tokens.now) result }
+    ensures read { ReadsDeclarator lexicon.now.types.now
+        (part.name_or_none (meant lexicon.now) may_lack tokens.now) result }
     ensures bounds { IfOk result (λ r. IsSized 0 0 r.value) }
 {
     if may_lack && !is_name_next(lexicon.names, tokens) {
@@ -221,7 +229,7 @@ pub(crate) fn name_or_none<'a>(
 }
 
 /// Whether the next array is the outermost one of a parameter.
-pub(crate) fn is_outermost(may_lack: bool, list: &[Piece]) -> bool
+pub fn is_outermost(may_lack: bool, list: &[Piece]) -> bool
     ensures { result ≡ may_lack && specified.is_bare (plain_pieces list.now) }
 {
     may_lack && is_bare(list)

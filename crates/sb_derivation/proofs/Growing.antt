@@ -4,11 +4,11 @@ use Rattle.sb_base.specs.declared.interning.Name.{Name}
 use Rattle.sb_base.specs.declared.refusals.Place.{Place}
 use Rattle.sb_tree.specs.Plain.{note_list}
 use Rattle.sb_tree.specs.Trees.{NoteTree, TypeTree, depth_of_decl, depth_of_notes, depth_of_type}
-use Rattle.sb_expr.specs.declared.pieces.Piece.{Piece}
-use Rattle.sb_expr.specs.Meaning.{plain_pieces}
-use Rattle.sb_expr.specs.Pieces.{depth_over}
-use Rattle.sb_expr.proofs.PieceDepths.{depth_of_typed}
-use Rattle.sb_declarator.specs.Parts.{simple_decl}
+use Rattle.sb_operand.specs.declared.pieces.Piece.{Piece}
+use Rattle.sb_operand.specs.Meaning.{plain_pieces}
+use Rattle.sb_operand.specs.Pieces.{depth_over}
+use Rattle.sb_operand.proofs.PieceDepths.{depth_of_typed}
+use Rattle.sb_derivation.specs.Parts.{simple_decl}
 
 -- a member or a parameter
 pub depth_of_simple : (notes : List NoteTree) (base : TypeTree) (ps : List Piece) (name : Option (Name × Place)) (inner : List Name) (place : Place) (n b p : ℕ)

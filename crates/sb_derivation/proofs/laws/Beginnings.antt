@@ -14,8 +14,8 @@ use Rattle.sb_sign.specs.declared.sign.Mark.{Mark}
 use Rattle.sb_sign.specs.declared.sign.Mark.TheVariants as mark
 use Rattle.sb_sign.specs.Signs as sign
 use Rattle.sb_lexicon.specs.Lexicon.{Lexicon, is_mark, name_of, is_among, is_type_name}
-use Rattle.sb_expr.specs.Pieces.{Piece, Pointed, Arrayed, Called, Grouped}
-use Rattle.sb_expr.specs.Readers.{begins_abstract}
+use Rattle.sb_operand.specs.Pieces.{Piece, Pointed, Arrayed, Called, Grouped}
+use Rattle.sb_operand.specs.Readers.{begins_abstract}
 use Rattle.sb_lexicon.specs.Tokens.{is_star, is_open, is_open_bracket, is_close, is_qualifier}
 use Rattle.sb_expr.proofs.tokens.More.{behind_pointers, is_empty}
 use Rattle.sb_parse.proofs.Ways.{or_first, or_second, and_fails}

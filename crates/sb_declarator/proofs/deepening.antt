@@ -1,0 +1,4 @@
+pub mod Declarators
+pub mod Members
+pub mod Shrinks
+pub mod Shrinking

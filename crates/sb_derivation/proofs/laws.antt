@@ -1,0 +1,3 @@
+pub mod Beginnings
+pub mod Fresh
+pub mod Heads
