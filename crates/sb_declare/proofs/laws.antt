@@ -1,5 +1,5 @@
 pub mod Declarations
-pub mod Initialisers
+pub mod Initialised
 pub mod Judging
 pub mod Listed
 pub mod Readers

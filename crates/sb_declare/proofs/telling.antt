@@ -1,3 +1,3 @@
 pub mod Answers
 pub mod Declarations
-pub mod Initialisers
+pub mod Initialised

@@ -1,9 +1,5 @@
 pub mod Barred
 pub mod Declarations
-pub mod Declarators
 pub mod Each
-pub mod Initialisers
-pub mod Members
 pub mod Readers
-pub mod Specifiers
 pub mod Void

@@ -1,4 +1,4 @@
--- Which lists of tokens are an initialiser or a declaration in a scope, and the trees of each (C99 6.7).
+-- Which lists of tokens are a declaration in a scope, and the trees of each (C99 6.7).
 use Rattle.std.specs.Prelude.{◌≡◌, ℕ, Bool, true, false, List, [], ◌∷◌, ◌++◌, Option, Some, None}
 use Rattle.sb_base.specs.declared.interning.Name.{Name}
 use Rattle.sb_base.specs.declared.refusals.Place.{Place}
@@ -9,7 +9,7 @@ use Rattle.sb_tree.specs.Trees as tree
 use Rattle.sb_tree.specs.Trees.{ExprTree, TypeTree, InitTree, OptionalInit, DeclTree, NoteTree}
 use Rattle.sb_expr.specs.Expression.{Assignment, IsExpr}
 use Rattle.sb_lexicon.specs.Lexicon.{Lexicon, is_mark}
-use Rattle.sb_expr.specs.Pieces.{typed}
+use Rattle.sb_operand.specs.Pieces.{typed}
 use Rattle.sb_sal.specs.Notes.{AreNotes}
 use Rattle.sb_sal.specs.declared.bearer.Bearer.{Bearer}
 use Rattle.sb_sal.specs.declared.bearer.Bearer.TheVariants as bearer
@@ -17,22 +17,9 @@ use Rattle.sb_sal.specs.Spellings.{may_stand}
 use Rattle.sb_specifier.specs.declared.seat.Seat.TheVariants as seat
 use Rattle.sb_specifier.specs.Specified.{declared, reading, Specified, unspecified, storage_of, base_of, again, declares_function, bearer_of}
 use Rattle.sb_specifier.specs.Readers.{Declarator, Declarations, is_pardon, name_in, place_in, place_of_base}
+use Rattle.sb_initialiser.specs.Initialiser.{IsInitialiser}
 use Rattle.sb_declare.specs.Readers.{functions_in}
 use Rattle.sb_specifier.specs.Declaration.{AreSpecifiers, IsDeclarator, nowhere}
-
--- ---- initialisers (6.7.8)
-
-mutual
-  pub data IsInitialiser (w : Lexicon) : List Token → InitTree → Type 0 where
-    is_value : (ts : List Token) (e : ExprTree) → IsExpr w Assignment ts e → IsInitialiser w ts (tree.One e)
-    is_list : (o c : Token) (ts : List Token) (is : List InitTree) (comma : Bool) → is_mark w mark.OpenBrace o ≡ true → is_mark w mark.CloseBrace c ≡ true
-        → AreInitialisers w ts is comma → IsInitialiser w (o ∷ (ts ++ (c ∷ []))) (tree.Braces (init_list is) o.place)
-
-  -- at least one, with commas between them, and whether a comma stands behind the last
-  pub data AreInitialisers (w : Lexicon) : List Token → List InitTree → Bool → Type 0 where
-    first_initialiser : (ts : List Token) (i : InitTree) → IsInitialiser w ts i → AreInitialisers w ts (i ∷ []) false
-    initialiser_behind : (xs ys : List Token) (is : List InitTree) (i : InitTree) → AreInitialisers w xs is true → IsInitialiser w ys i → AreInitialisers w (xs ++ ys) (is ++ (i ∷ [])) false
-    comma_behind : (c : Token) (ts : List Token) (is : List InitTree) → is_mark w mark.Comma c ≡ true → AreInitialisers w ts is false → AreInitialisers w (ts ++ (c ∷ [])) is true
 
 -- ---- declarations in a scope
 

@@ -1,5 +1,4 @@
 pub mod Declaration
 pub mod Readers
-pub mod Initialisers
 pub mod Openings
 pub mod Reads

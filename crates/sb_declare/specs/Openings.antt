@@ -15,7 +15,7 @@ use Rattle.sb_lexicon.specs.declared.reading.Read.{Read}
 use Rattle.sb_lexicon.specs.declared.reading.ReadFault.{ReadFault}
 use Rattle.sb_lexicon.specs.Lexicon.{Lexicon, is_mark}
 use Rattle.sb_lexicon.specs.Meaning.{IsFault}
-use Rattle.sb_expr.specs.Pieces.{typed}
+use Rattle.sb_operand.specs.Pieces.{typed}
 use Rattle.sb_lexicon.specs.Tokens.{unexpected, too_deep, misplaced_before}
 use Rattle.sb_sal.specs.declared.bearer.Bearer.{Bearer}
 use Rattle.sb_sal.specs.declared.bearer.Bearer.TheVariants as bearer
@@ -25,15 +25,17 @@ use Rattle.sb_declare.specs.declared.declarations.Declared.{Declared}
 use Rattle.sb_declare.specs.declared.sharing.Counted.{Counted}
 use Rattle.sb_declare.specs.declared.sharing.Listing as declared_listing
 use Rattle.sb_declare.specs.declared.sharing.Shared.{Shared}
+use Rattle.sb_declare.specs.declared.tails.Tail.{Tail}
 use Rattle.sb_declare.specs.declared.openings.InitialValue.{InitialValue}
 use Rattle.sb_declare.specs.declared.openings.Opening as declared_opening
 use Rattle.sb_specifier.specs.Declaration.{nowhere}
-use Rattle.sb_declarator.specs.Declarators.{plain_declarator}
+use Rattle.sb_derivation.specs.Declarators.{plain_declarator}
 use Rattle.sb_specifier.specs.Meaning.{plain_specified, plain_later, type_in}
-use Rattle.sb_declarator.specs.Parts.{notes_at}
+use Rattle.sb_derivation.specs.Parts.{notes_at}
 use Rattle.sb_declare.specs.Readers as reader
 use Rattle.sb_specifier.specs.Readers as specifier
-use Rattle.sb_declare.specs.Readers.{Opening, Listing, initialiser, misplaced_in, judged_by, declarator_in}
+use Rattle.sb_initialiser.specs.Readers.{initialiser}
+use Rattle.sb_declare.specs.Readers.{Opening, Listing, misplaced_in, judged_by, declarator_in}
 use Rattle.sb_specifier.specs.Readers.{Declarator, Declarations, is_assign, is_pardon, name_in, place_in, place_of_base}
 use Rattle.sb_declarator.specs.Readers.{parts, declarators}
 use Rattle.sb_parse.specs.Texts.{with_text}
@@ -57,6 +59,10 @@ initialised w below = choose (is_assign w) (guard (nat_lt below 2) too_deep (tok
 abbrev pub ReadsInitialised : Outcome Token OptionalInit → Result InitialValue ReadFault → Type 0
 ReadsInitialised o (Ok i) = (o ≡ done (optional_init (option_map plain_init i.tree)) i.rest.now) × (i.depth ≡ depth_of_optional_init (optional_init (option_map plain_init i.tree)))
 ReadsInitialised o (Err e) = IsFault o e
+
+abbrev pub ReadsTail : Outcome Token (OptionalInit × List Token) → Result Tail ReadFault → Type 0
+ReadsTail o (Ok t) = o ≡ done (optional_init (option_map plain_init t.init), t.front.now) t.rest.now
+ReadsTail o (Err e) = IsFault o e
 
 -- ---- the declarators of one declaration
 
@@ -115,6 +121,10 @@ next_declarator texts below s l = token unexpected (is_mark (reading texts l.typ
 abbrev pub next_declarators : List (List ℕ) → ℕ → Shared → Listing → Parser Token Listing
 next_declarators texts below s = looped (is_mark (reading texts []) mark.Comma) (next_declarator texts below s)
 
+-- the semicolon behind the declarators of a declaration
+abbrev pub ended : List (List ℕ) → Listing → Parser Token Declarations
+ended texts l = token unexpected (is_mark (reading texts l.types) mark.Semicolon) >>= (λ c. pure (record { list = l.list; types = l.types }))
+
 -- the rest of a declaration behind a declarator on this type
 abbrev pub rest_behind : List (List ℕ) → ℕ → Shared → TypeTree → List Name → Declarator × ℕ → Parser Token Declarations
 rest_behind texts below s base types d = behind texts below (notes_of texts below s) s.storage base [] types d >>= next_declarators texts below s >>= (λ l.
@@ -123,10 +133,18 @@ rest_behind texts below s base types d = behind texts below (notes_of texts belo
 abbrev pub first_declarator : List (List ℕ) → ℕ → Opening → Parser Token (Declarator × ℕ)
 first_declarator texts below o = declarator_in texts below (parts texts below) o o.specified.types o.base o.count
 
+-- the declarators of a declaration
+abbrev pub named : List (List ℕ) → ℕ → Opening → Parser Token Declarations
+named texts below o = first_declarator texts below o >>= reader.rest_of_declaration texts below (parts texts below) o
+
 -- ---- declarations without a name, and definitions
 
 abbrev pub nameless_of : List NoteTree → Storage → Specified → Declarations
 nameless_of notes storage s = record { list = tree.Decl (note_list notes) storage (type_in s) None (place_of_base (type_in s)) tree.NoInit tree.NoStmt ∷ []; types = s.types }
+
+-- the semicolon behind the specifiers of a declaration without a name
+abbrev pub nameless_end : List (List ℕ) → ℕ → Shared → ℕ → Parser Token Token
+nameless_end texts below s count = pardoned (misplacement texts below s.outer.now s.noted.now bearer.Object) count >>= (λ p. token unexpected (is_mark (reading texts []) mark.Semicolon))
 
 -- behind the specifiers of a declaration without a name
 abbrev pub nameless_behind : List (List ℕ) → ℕ → Shared → Specified → ℕ → Parser Token Declarations

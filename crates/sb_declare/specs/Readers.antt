@@ -1,4 +1,4 @@
--- The readers of initialisers and of declarations in a scope, as functions on the tokens that are left.
+-- The readers of declarations in a scope, as functions on the tokens that are left.
 use Rattle.std.specs.Prelude.{ℕ, zero, suc, ◌+◌, ◌-◌, Bool, true, false, ◌||◌, not, List, [], ◌∷◌, ◌++◌, length, nat_eq, nat_lt, Option, Some, None, if◌then◌else◌}
 use Rattle.sb_base.specs.declared.interning.Name.{Name}
 use Rattle.sb_base.specs.declared.refusals.Place.{Place}
@@ -11,7 +11,7 @@ use Rattle.sb_tree.specs.Trees as tree
 use Rattle.sb_tree.specs.Trees.{TypeTree, InitTree, OptionalInit, DeclTree, NoteTree}
 use Rattle.sb_expr.specs.Expression.{Assignment}
 use Rattle.sb_lexicon.specs.Lexicon.{Lexicon}
-use Rattle.sb_expr.specs.Pieces.{typed}
+use Rattle.sb_operand.specs.Pieces.{typed}
 use Rattle.sb_lexicon.specs.Tokens as expr
 use Rattle.sb_expr.specs.Readers.{expr_reader}
 use Rattle.sb_lexicon.specs.Tokens.{unexpected, too_deep, misplaced, misplaced_before, is_open_brace, is_comma}
@@ -25,32 +25,7 @@ use Rattle.sb_specifier.specs.Specified.{declared, reading, Specified, storage_o
 use Rattle.sb_specifier.specs.Readers.{Declarations, Declarator, Parts, barred, begins_designator, designated, ends_nameless, is_assign, is_close_brace, is_pardon, is_semicolon, name_in, place_in, place_of_base, specifiers}
 use Rattle.sb_declarator.specs.Readers.{on, parts}
 use Rattle.sb_parse.specs.Texts.{with_text}
-
--- ---- initialisers (6.7.8)
-
-pub record Initialisers : Type 0 where
-  pub list : List InitTree
-  -- a comma was read, or nothing yet
-  pub more : Bool
-
--- `part`: initialisers that are at most `below` deep
-module _ (w : Lexicon) (below : ℕ) (part : Parser Token InitTree) where
-  unfoldable pub next_initialiser : Initialisers → Parser Token Initialisers
-  next_initialiser is = if is.more
-      then choose (begins_designator w) (refuse designated) part >>= (λ i. choose (is_comma w) (token unexpected (is_comma w) >>= (λ t. pure true)) (pure false) >>= (λ more.
-      pure (record { list = is.list ++ (i ∷ []); more = more })))
-      else refuse unexpected
-
-  unfoldable pub braces : Parser Token InitTree
-  braces = token unexpected (is_open_brace w) >>= (λ o. next_initialiser (record { list = []; more = true }) >>= looped (λ t. not (is_close_brace w t)) next_initialiser >>= (λ is.
-      token unexpected (is_close_brace w) >>= (λ c. pure (tree.Braces (init_list is.list) o.place))))
-
-  unfoldable pub initialiser_at : Parser Token InitTree
-  initialiser_at = choose (is_open_brace w) (guard (nat_lt below 2) too_deep braces) (expr_reader w below Assignment >>= (λ e. pure (tree.One e)))
-
-unfoldable pub initialiser : Lexicon → ℕ → Parser Token InitTree
-initialiser w zero = choose (λ t. is_open_brace w t || expr.begins_expr w t) (refuse too_deep) (refuse unexpected)
-initialiser w (suc below) = initialiser_at w below (initialiser w below)
+use Rattle.sb_initialiser.specs.Readers.{initialiser}
 
 -- ---- declarations
 

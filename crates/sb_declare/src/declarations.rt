@@ -1,29 +1,26 @@
 //! Declarations in a scope (C99 6.7).
-ghost use Rattle.std.specs.Prelude.{◌≡◌, ◌≤◌, ◌<◌, ◌+◌, [], ◌∷◌, IfOk, IfErr};
-ghost use Rattle.sb_lexicon.specs.declared.reading.ReadFault.TheVariants.{Memory};
+ghost use Rattle.std.specs.Prelude.{◌≡◌, ◌≤◌, ◌<◌, ◌+◌, [], ◌∷◌, IfOk};
 ghost use Rattle.sb_lexicon.specs.Meaning.{GivesAs};
-ghost use Rattle.sb_tree.specs.Plain.{plain_decl, plain_stmt, plain_type};
+ghost use Rattle.sb_tree.specs.Plain.{plain_decl, plain_notes, plain_type};
 ghost use Rattle.sb_tree.specs.Trees.{depth_of_type};
-ghost use Rattle.sb_declarator.specs.Declarators.{plain_declarator};
 ghost use Rattle.sb_declarator.specs.Meaning.{inside};
 ghost use Rattle.sb_specifier.specs.Meaning.{plain_later, plain_specified, type_in, IsKnown, IsRoomy};
-ghost use Rattle.sb_declare.specs.Openings.{plain_counted, plain_declared, plain_opening};
+ghost use Rattle.sb_declare.specs.Openings.{plain_counted, plain_declared, plain_listing, plain_opening};
 ghost use Rattle.sb_declare.specs.Openings as part;
 ghost use Rattle.sb_declare.specs.Readers as spec;
 ghost use Rattle.sb_specifier.specs.Specified as specified;
 
-use crate::building::declaration_of;
 use crate::openings::{Opening, is_nameless_next, opening_within};
 use crate::sharing::{
-    Counted, Listing, Shared, behind, declarator_on, declared_by, judged, next_declarators,
-    notes_again,
+    Counted, Listing, Shared, declarator_on, judged, next_declarators, notes_again,
 };
+use crate::tails::behind;
 use sb_base::{Name, Names, Token};
 use sb_lexicon::{Lexicon, Read, ReadFault};
 use sb_sal::Bearer;
 use sb_sign::Mark;
 use sb_specifier::{Seat, Specified, barred, take_mark};
-use sb_tree::{Decl, Stmt, TypeName};
+use sb_tree::{Decl, Note, Storage, TypeName};
 use std::alloc::{AllocError, Global};
 
 /// Declarations in a scope, and the typedef names in force behind them.
@@ -34,13 +31,16 @@ pub struct Declared {
 }
 
 /// What the declarators of a declaration share.
-fn shared<'n, 'a>(opening: &Opening<'n, 'a>) -> Shared<'n, 'a>
+pub(crate) fn shared<'n, 'a>(opening: &Opening<'n, 'a>) -> Shared<'n, 'a>
     ensures outer { result.outer.now ≡ opening.now.outer.now }
     ensures tokens { result.tokens.now ≡ opening.now.tokens.now }
     ensures noted { result.noted.now ≡ opening.now.noted.now }
-    ensures storage { result.storage ≡ specified.storage_of (plain_specified opening.now.specified) }
-    ensures later { plain_later result.later ≡ specified.again (type_in (plain_specified opening.now.specified)) }
-    ensures constant { specified.one_if result.later.constant ≤ specified.one_if opening.now.specified.constant }
+    ensures storage { result.storage
+        ≡ specified.storage_of (plain_specified opening.now.specified) }
+    ensures later { plain_later result.later
+        ≡ specified.again (type_in (plain_specified opening.now.specified)) }
+    ensures constant { specified.one_if result.later.constant
+        ≤ specified.one_if opening.now.specified.constant }
 {
     Shared {
         outer: opening.outer,
@@ -75,7 +75,9 @@ pub fn first_declarator<'a>(
     requires shallow { below < 200 }
     requires known { IsKnown opening.now.specified }
     requires fits { IsRoomy below opening.now.specified }
-    ensures read { GivesAs (plain_counted opening.now.specified.types.items) (part.first_declarator names.now.texts below (plain_opening names.now.texts below opening.now) tokens.now) result }
+    ensures read { GivesAs (plain_counted opening.now.specified.types.items)
+        (part.first_declarator names.now.texts below
+        (plain_opening names.now.texts below opening.now) tokens.now) result }
 {
     let lexicon = Lexicon {
         names,
@@ -96,12 +98,28 @@ pub fn first_declarator<'a>(
 }
 
 /// One declaration alone.
-fn alone(alloc: Global, tree: Decl, types: Vec<Name>) -> Result<Declared, AllocError>
-    ensures { IfOk result (λ ds. plain_declared ds ≡ record { list = plain_decl tree ∷ []; types = types.items }) }
+pub(crate) fn alone(alloc: Global, tree: Decl, types: Vec<Name>) -> Result<Declared, AllocError>
+    ensures { IfOk result
+        (λ ds. plain_declared ds ≡ record { list = plain_decl tree ∷ []; types = types.items }) }
 {
     let mut list = Vec::new(alloc);
     list.push(tree)?;
     Ok(Declared { list, types })
+}
+
+/// The semicolon behind the declarators of a declaration.
+fn ended<'a>(names: &Names, all: Read<'a, Listing>) -> Result<Read<'a, Declared>, ReadFault>
+    ensures read { GivesAs plain_declared
+        (part.ended names.now.texts (plain_listing all.entry.value) all.entry.rest.now) result }
+{
+    let end = take_mark(names, Mark::Semicolon, all.rest)?;
+    Ok(Read {
+        value: Declared {
+            list: all.value.list,
+            types: all.value.types,
+        },
+        rest: end.rest,
+    })
 }
 
 /// The declarations of one whose first declarator was read.
@@ -116,7 +134,9 @@ fn rest_behind<'a>(
 ) -> Result<Read<'a, Declared>, ReadFault>
     requires shallow { below < 200 }
     requires fits { 1 + specified.one_if shared.now.later.constant ≤ below }
-    ensures read { GivesAs plain_declared (part.rest_behind names.now.texts below shared.now (plain_type base.value) types.items (plain_counted types.items first.entry.value) first.entry.rest.now) result }
+    ensures read { GivesAs plain_declared
+        (part.rest_behind names.now.texts below shared.now (plain_type base.value) types.items
+        (plain_counted types.items first.entry.value) first.entry.rest.now) result }
 {
     let none = Listing {
         list: Vec::new(alloc),
@@ -125,14 +145,7 @@ fn rest_behind<'a>(
     };
     let start = behind(alloc, names, below, shared, base, none, first)?;
     let all = next_declarators(alloc, names, below, shared, start)?;
-    let end = take_mark(names, Mark::Semicolon, all.rest)?;
-    Ok(Read {
-        value: Declared {
-            list: all.value.list,
-            types: all.value.types,
-        },
-        rest: end.rest,
-    })
+    ended(names, all)
 }
 
 /// The rest of a declaration behind its first declarator.
@@ -147,7 +160,10 @@ pub fn rest_of_declaration<'a>(
     requires shallow { below < 200 }
     requires known { IsKnown opening.specified }
     requires fits { IsRoomy below opening.specified }
-    ensures read { GivesAs plain_declared (inside spec.rest_of_declaration names.now.texts below (plain_opening names.now.texts below opening.entry) (plain_counted opening.entry.specified.types.items first) tokens.now) result }
+    ensures read { GivesAs plain_declared
+        (inside spec.rest_of_declaration names.now.texts below
+        (plain_opening names.now.texts below opening.entry)
+        (plain_counted opening.entry.specified.types.items first) tokens.now) result }
 {
     let common = shared(&opening);
     let specified = opening.specified;
@@ -169,6 +185,52 @@ pub fn rest_of_declaration<'a>(
     )
 }
 
+/// The semicolon behind the specifiers of a declaration without a name, and its annotations again.
+fn nameless_end<'a>(
+    alloc: Global,
+    names: &Names,
+    below: u32,
+    shared: &Shared,
+    count: usize,
+    tokens: &'a [Token],
+) -> Result<Read<'a, (Token, Vec<Note>)>, ReadFault>
+    requires shallow { below < 200 }
+    ensures read { GivesAs (λ v. v.0)
+        (part.nameless_end names.now.texts below shared.now count tokens.now) result }
+    ensures notes { IfOk result
+        (λ r. plain_notes r.value.1.items ≡ part.notes_of names.now.texts below shared.now) }
+{
+    let judged = judged(alloc, names, below, shared, Bearer::Object, count, tokens)?;
+    let end = take_mark(names, Mark::Semicolon, judged.rest)?;
+    let notes = notes_again(alloc, names, below, shared)?;
+    Ok(Read {
+        value: (end.value, notes),
+        rest: end.rest,
+    })
+}
+
+/// A declaration without a name.
+fn unnamed(
+    alloc: Global,
+    notes: Vec<Note>,
+    storage: Storage,
+    specified: Specified,
+) -> Result<Declared, AllocError>
+    requires known { IsKnown specified }
+    requires shallow { specified.depth ≤ 200 }
+    ensures { IfOk result
+        (λ ds. plain_declared ds ≡ part.nameless_of (plain_notes notes.items) storage
+        (plain_specified specified)) }
+{
+    let place = specified.said.place();
+    let base = specified
+        .said
+        .based(alloc, specified.depth, specified.constant)?;
+    let type_name = Box::into_inner(base.tree);
+    let tree = Decl::new(notes, storage, type_name, None, place, None, None);
+    alone(alloc, tree, specified.types)
+}
+
 /// What stands behind the specifiers of a declaration without a name.
 fn nameless_behind<'a>(
     alloc: Global,
@@ -182,19 +244,14 @@ fn nameless_behind<'a>(
     requires shallow { below < 200 }
     requires known { IsKnown specified }
     requires fits { IsRoomy below specified }
-    ensures read { GivesAs plain_declared (part.nameless_behind names.now.texts below shared.now (plain_specified specified) count tokens.now) result }
+    ensures read { GivesAs plain_declared
+        (part.nameless_behind names.now.texts below shared.now (plain_specified specified) count
+        tokens.now) result }
 {
-    let judged = judged(alloc, names, below, shared, Bearer::Object, count, tokens)?;
-    let end = take_mark(names, Mark::Semicolon, judged.rest)?;
-    let notes = notes_again(alloc, names, below, shared)?;
-    let place = specified.said.place();
-    let base = specified
-        .said
-        .based(alloc, specified.depth, specified.constant)?;
-    let type_name = Box::into_inner(base.tree);
-    let tree = Decl::new(notes, shared.storage, type_name, None, place, None, None);
+    let end = nameless_end(alloc, names, below, shared, count, tokens)?;
+    let (_semicolon, notes) = end.value;
     Ok(Read {
-        value: alone(alloc, tree, specified.types)?,
+        value: unnamed(alloc, notes, shared.storage, specified)?,
         rest: end.rest,
     })
 }
@@ -210,7 +267,9 @@ pub fn nameless<'a>(
     requires shallow { below < 200 }
     requires known { IsKnown opening.specified }
     requires fits { IsRoomy below opening.specified }
-    ensures read { GivesAs plain_declared (part.nameless names.now.texts below (plain_opening names.now.texts below opening.entry) tokens.now) result }
+    ensures read { GivesAs plain_declared
+        (part.nameless names.now.texts below (plain_opening names.now.texts below opening.entry)
+        tokens.now) result }
 {
     let common = shared(&opening);
     let count = opening.count;
@@ -225,6 +284,25 @@ pub fn nameless<'a>(
     )
 }
 
+/// The declarators of a declaration, of which there is one at least.
+fn named<'a>(
+    alloc: Global,
+    names: &Names,
+    below: u32,
+    opening: Opening,
+    tokens: &'a [Token],
+) -> Result<Read<'a, Declared>, ReadFault>
+    requires shallow { below < 200 }
+    requires known { IsKnown opening.specified }
+    requires fits { IsRoomy below opening.specified }
+    ensures read { GivesAs plain_declared
+        (part.named names.now.texts below (plain_opening names.now.texts below opening.entry)
+        tokens.now) result }
+{
+    let first = first_declarator(alloc, names, below, &opening, tokens)?;
+    rest_of_declaration(alloc, names, below, opening, first.value, first.rest)
+}
+
 /// A declaration whose parts are at most `below` deep.
 #[tactic(auto, unfolding(crate::specs::Readers::declaration_at))]
 fn declaration_at<'a>(
@@ -236,7 +314,8 @@ fn declaration_at<'a>(
 ) -> Result<Read<'a, Declared>, ReadFault>
     requires shallow { below < 200 }
     requires some { 1 ≤ below }
-    ensures read { GivesAs plain_declared (inside spec.declaration_at names.now.texts below types.now tokens.now) result }
+    ensures read { GivesAs plain_declared
+        (inside spec.declaration_at names.now.texts below types.now tokens.now) result }
 {
     let lexicon = Lexicon {
         names,
@@ -247,8 +326,7 @@ fn declaration_at<'a>(
     if is_nameless_next(&lexicon, opening.rest) {
         return nameless(alloc, names, below, opening.value, opening.rest);
     }
-    let first = first_declarator(alloc, names, below, &opening.value, opening.rest)?;
-    rest_of_declaration(alloc, names, below, opening.value, first.value, first.rest)
+    named(alloc, names, below, opening.value, opening.rest)
 }
 
 /// A declaration that is at most `left` deep, where these typedef names are in force.
@@ -260,7 +338,8 @@ pub fn declaration<'a>(
     tokens: &'a [Token],
 ) -> Result<Read<'a, Declared>, ReadFault>
     requires shallow { left ≤ 200 }
-    ensures read { GivesAs plain_declared (spec.declaration_reader names.now.texts left types.now tokens.now) result }
+    ensures read { GivesAs plain_declared
+        (spec.declaration_reader names.now.texts left types.now tokens.now) result }
 {
     if left < 2 {
         let lexicon = Lexicon {
@@ -271,57 +350,4 @@ pub fn declaration<'a>(
         return Err(barred(&lexicon, Seat::Scope, tokens));
     }
     declaration_at(alloc, names, types, left - 1, tokens)
-}
-
-// ---- definitions of functions
-
-/// The definition of a function with this body. Its only fault is want of memory.
-pub fn definition(
-    alloc: Global,
-    names: &Names,
-    below: u32,
-    opening: Opening,
-    first: Counted,
-    body: Stmt,
-) -> Result<Declared, ReadFault>
-    requires shallow { below < 200 }
-    requires known { IsKnown opening.specified }
-    requires fits { IsRoomy below opening.specified }
-    ensures value { IfOk result (λ ds. plain_declared ds ≡ part.definition names.now.texts below (plain_opening names.now.texts below opening.entry) (plain_counted opening.entry.specified.types.items first).0 (plain_stmt body)) }
-    ensures memory { IfErr result (λ e. e ≡ Memory) }
-{
-    let common = shared(&opening);
-    let notes = notes_again(alloc, names, below, &common)?;
-    let specified = opening.specified;
-    let declarator = first.declarator;
-    let types = declared_by(common.storage, declarator.name, specified.types)?;
-    let base = specified
-        .said
-        .based(alloc, specified.depth, specified.constant)?;
-    let tree = declaration_of(
-        alloc,
-        notes,
-        common.storage,
-        base.tree,
-        declarator,
-        None,
-        Some(body),
-    )?;
-    Ok(alone(alloc, tree, types)?)
-}
-
-/// The typedef names in force in the body of a function.
-pub fn names_inside(
-    alloc: Global,
-    opening: &Opening,
-    first: &Counted,
-) -> Result<Vec<Name>, AllocError>
-    ensures { IfOk result (λ ns. ns.items ≡ part.declared_as (specified.storage_of (plain_specified opening.now.specified)) first.now.declarator.name (plain_declarator opening.now.specified.types.items first.now.declarator).inner) }
-{
-    let before = match &first.declarator.inner {
-        Some(inner) => inner.as_slice(),
-        None => opening.specified.types.as_slice(),
-    };
-    let types = Vec::from_slice(alloc, before)?;
-    declared_by(opening.specified.storage(), first.declarator.name, types)
 }

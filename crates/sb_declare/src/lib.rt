@@ -1,16 +1,14 @@
-//! Readers of declarations in a scope and of initialisers (C99 6.7, 6.7.8).
+//! Readers of declarations in a scope (C99 6.7).
 #![tactic(auto)]
 
 mod building;
 mod declarations;
-mod initialisers;
+mod definitions;
 mod openings;
 mod sharing;
+mod tails;
 
-pub use declarations::{
-    Declared, declaration, definition, first_declarator, nameless, names_inside,
-    rest_of_declaration,
-};
-pub use initialisers::{Initial, initialiser};
+pub use declarations::{Declared, declaration, first_declarator, nameless, rest_of_declaration};
+pub use definitions::{definition, names_inside};
 pub use openings::{Opening, ends_nameless, is_nameless_next, opening_within};
 pub use sharing::Counted;

@@ -9,9 +9,9 @@ ghost use Rattle.sb_declare.specs.Openings as part;
 ghost use Rattle.sb_declare.specs.Readers as declaration;
 ghost use Rattle.sb_specifier.specs.Readers as spec;
 
-use crate::initialisers::initialiser;
 use sb_base::{Name, Names, PpKind, Token};
 use sb_declarator::specifiers;
+use sb_initialiser::initialiser;
 use sb_lexicon::{Lexicon, Read, ReadFault, is_mark, is_mark_next};
 use sb_sal::{Bearer, notes_within};
 use sb_sign::Mark;
@@ -40,7 +40,8 @@ pub(crate) struct InitialValue<'a> {
 
 /// The first tokens of a list, up to those that are left of it.
 pub(crate) fn front<'a>(tokens: &'a [Token], rest: &[Token]) -> &'a [Token]
-    ensures { result.now ≡ take (length tokens.now - length rest.now) tokens.now }
+    ensures front { result.now ≡ take (length tokens.now - length rest.now) tokens.now }
+    ensures shorter { length result.now ≤ length tokens.now }
 {
     &tokens[..tokens.len().saturating_sub(rest.len())]
 }
@@ -56,7 +57,8 @@ pub fn opening_within<'n, 'a>(
 ) -> Result<Read<'a, Opening<'n, 'a>>, ReadFault>
     requires shallow { below < 200 }
     requires some { 1 ≤ below }
-    ensures read { ReadsOpening names.now.texts below (inside declaration.opening names.now.texts below types.now tokens.now) result }
+    ensures read { ReadsOpening names.now.texts below
+        (inside declaration.opening names.now.texts below types.now tokens.now) result }
     ensures known { IfOk result (λ r. IsKnown r.value.specified) }
     ensures fits { IfOk result (λ r. IsRoomy below r.value.specified) }
 {

@@ -3,20 +3,21 @@ ghost use Rattle.std.specs.Prelude.{◌≡◌, ◌≤◌, ◌<◌, ◌+◌, fals
 ghost use Rattle.sb_lexicon.specs.declared.reading.ReadFault.TheVariants.{Memory};
 ghost use Rattle.sb_lexicon.specs.Meaning.{stop_number, Gives, GivesAs};
 ghost use Rattle.sb_lexicon.specs.Tokens.{misplaced};
-ghost use Rattle.sb_tree.specs.Plain.{plain_notes, plain_type};
+ghost use Rattle.sb_tree.specs.Plain.{plain_notes};
 ghost use Rattle.sb_declare.specs.Openings.{plain_counted, plain_listing};
 ghost use Rattle.sb_declare.specs.Openings as part;
 ghost use Rattle.sb_specifier.specs.Specified as specified;
 
-use crate::building::declaration_of;
-use crate::openings::{front, initialised, is_pardon};
+use crate::openings::{front, is_pardon};
+use crate::tails::behind;
 use sb_base::{Name, Names, Place, Token};
-use sb_declarator::{Declarator, declarator_within};
+use sb_declarator::declarator_within;
+use sb_derivation::Declarator;
 use sb_lexicon::{Lexicon, Read, ReadFault, Reason};
 use sb_sal::{Bearer, notes_within};
 use sb_sign::Mark;
 use sb_specifier::{Later, declare, is_mark_next, take_mark};
-use sb_tree::{Decl, Note, Storage, TypeName};
+use sb_tree::{Decl, Note, Storage};
 use std::alloc::{AllocError, Global};
 
 /// What the declarators of one declaration share: the typedef names in force before it, its tokens from the annotations
@@ -48,7 +49,7 @@ pub(crate) struct Listing {
 // ---- counts
 
 /// A sum of counts of tokens, which memory bounds.
-fn added(count: usize, more: usize) -> Result<usize, ReadFault>
+pub(crate) fn added(count: usize, more: usize) -> Result<usize, ReadFault>
     ensures sum { IfOk result (λ n. n ≡ count + more) }
     ensures memory { IfErr result (λ e. e ≡ Memory) }
 {
@@ -76,7 +77,9 @@ fn misplacement(
     bearer: Bearer,
 ) -> Result<Option<usize>, ReadFault>
     requires shallow { below < 200 }
-    ensures value { IfOk result (λ m. m ≡ part.misplacement names.now.texts below shared.now.outer.now shared.now.noted.now bearer) }
+    ensures value { IfOk result
+        (λ m. m ≡ part.misplacement names.now.texts below shared.now.outer.now shared.now.noted.now
+        bearer) }
     ensures memory { IfErr result (λ e. e ≡ Memory) }
 {
     let lexicon = Lexicon {
@@ -117,7 +120,9 @@ pub(crate) fn judged<'a>(
     tokens: &'a [Token],
 ) -> Result<Read<'a, Option<Token>>, ReadFault>
     requires shallow { below < 200 }
-    ensures { Gives (part.pardoned (part.misplacement names.now.texts below shared.now.outer.now shared.now.noted.now bearer) count tokens.now) result }
+    ensures { Gives (part.pardoned
+        (part.misplacement names.now.texts below shared.now.outer.now shared.now.noted.now bearer)
+        count tokens.now) result }
 {
     match misplacement(alloc, names, below, shared, bearer)? {
         None => Ok(Read {
@@ -136,7 +141,8 @@ pub(crate) fn notes_again(
     shared: &Shared,
 ) -> Result<Vec<Note>, ReadFault>
     requires shallow { below < 200 }
-    ensures list { IfOk result (λ ns. plain_notes ns.items ≡ part.notes_of names.now.texts below shared.now) }
+    ensures list { IfOk result
+        (λ ns. plain_notes ns.items ≡ part.notes_of names.now.texts below shared.now) }
     ensures memory { IfErr result (λ e. e ≡ Memory) }
 {
     let lexicon = Lexicon {
@@ -199,13 +205,18 @@ pub(crate) fn declarator_on<'a>(
     requires shallow { below < 200 }
     requires fits { depth ≤ below }
     requires outside { lexicon.now.in_note ≡ false }
-    ensures read { GivesAs (plain_counted lexicon.now.types.now) (part.declarator_on lexicon.now.names.now.texts below shared.now.outer.now shared.now.noted.now shared.now.storage lexicon.now.types.now depth count tokens.now) result }
+    ensures read { GivesAs (plain_counted lexicon.now.types.now)
+        (part.declarator_on lexicon.now.names.now.texts below shared.now.outer.now
+        shared.now.noted.now shared.now.storage lexicon.now.types.now depth count tokens.now)
+        result }
 {
+    // All tokens can be counted, so that no sum below is too large.
+    let _most = added(count, tokens.len())?;
     let functions = !is_typedef(shared.storage);
     let room = below - depth;
     let found = declarator_within(alloc, lexicon, functions, false, below, room, tokens)?;
     let bearer = bearer_of(found.value.declares_function());
-    let so_far = added(count, front(tokens, found.rest).len())?;
+    let so_far = count + front(tokens, found.rest).len();
     let judged = judged(
         alloc,
         lexicon.names,
@@ -218,50 +229,9 @@ pub(crate) fn declarator_on<'a>(
     Ok(Read {
         value: Counted {
             declarator: found.value,
-            count: added(count, front(tokens, judged.rest).len())?,
+            count: count + front(tokens, judged.rest).len(),
         },
         rest: judged.rest,
-    })
-}
-
-/// What may follow a declarator: an initialiser.
-pub(crate) fn behind<'a>(
-    alloc: Global,
-    names: &Names,
-    below: u32,
-    shared: &Shared,
-    base: Box<TypeName>,
-    so_far: Listing,
-    found: Read<'a, Counted>,
-) -> Result<Read<'a, Listing>, ReadFault>
-    requires shallow { below < 200 }
-    ensures read { GivesAs plain_listing (part.behind names.now.texts below (part.notes_of names.now.texts below shared.now) shared.now.storage (plain_type base.value) (plain_listing so_far).list so_far.types.items (plain_counted so_far.types.items found.entry.value) found.entry.rest.now) result }
-{
-    let counted = found.value;
-    let declarator = counted.declarator;
-    let types = declared_by(shared.storage, declarator.name, so_far.types)?;
-    let lexicon = Lexicon {
-        names,
-        types: types.as_slice(),
-        in_note: false,
-    };
-    let initial = initialised(alloc, &lexicon, below, found.rest)?;
-    let count = added(counted.count, front(found.rest, initial.rest).len())?;
-    let notes = notes_again(alloc, names, below, shared)?;
-    let tree = declaration_of(
-        alloc,
-        notes,
-        shared.storage,
-        base,
-        declarator,
-        initial.tree,
-        None,
-    )?;
-    let mut list = so_far.list;
-    list.push(tree)?;
-    Ok(Read {
-        value: Listing { list, types, count },
-        rest: initial.rest,
     })
 }
 
@@ -275,7 +245,9 @@ fn next_declarator<'a>(
 ) -> Result<Read<'a, Listing>, ReadFault>
     requires shallow { below < 200 }
     requires fits { 1 + specified.one_if shared.now.later.constant ≤ below }
-    ensures read { GivesAs plain_listing (part.next_declarator names.now.texts below shared.now (plain_listing so_far.entry.value) so_far.entry.rest.now) result }
+    ensures read { GivesAs plain_listing
+        (part.next_declarator names.now.texts below shared.now (plain_listing so_far.entry.value)
+        so_far.entry.rest.now) result }
 {
     let before = so_far.value;
     let comma = take_mark(names, Mark::Comma, so_far.rest)?;
@@ -302,7 +274,9 @@ pub(crate) fn next_declarators<'a>(
 ) -> Result<Read<'a, Listing>, ReadFault>
     requires shallow { below < 200 }
     requires fits { 1 + specified.one_if shared.now.later.constant ≤ below }
-    ensures read { GivesAs plain_listing (part.next_declarators names.now.texts below shared.now (plain_listing first.entry.value) first.entry.rest.now) result }
+    ensures read { GivesAs plain_listing
+        (part.next_declarators names.now.texts below shared.now (plain_listing first.entry.value)
+        first.entry.rest.now) result }
 {
     let most = first.rest.len();
     let mut found = first;

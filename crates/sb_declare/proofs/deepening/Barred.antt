@@ -41,8 +41,8 @@ use Rattle.sb_declarator.specs.Readers.{on, parameter, next_parameter, parameter
 use Rattle.sb_declare.specs.Readers.{opening}
 use Rattle.sb_declare.proofs.widening.Barred.{is_word, begins_by, begins_as, none_begins, specified_by, by_specifier, by_word, behind_one, later, notes_at}
 use Rattle.sb_specifier.proofs.laws.Keywords.{type_name_specifies_none}
-use Rattle.sb_declare.proofs.deepening.Members.{past_front, shrinks_text}
-use Rattle.sb_declare.proofs.deepening.Shrinking.{shrinks_loop, past_tag_shrinks, specified_shrinks, structure_enters, enumeration_enters, keywords_shrink, defined_shrinks, completed_shrinks, specifiers_shrink, on_shrinks, next_parameter_shrinks}
+use Rattle.sb_declarator.proofs.deepening.Members.{past_front, shrinks_text}
+use Rattle.sb_declarator.proofs.deepening.Shrinking.{shrinks_loop, past_tag_shrinks, specified_shrinks, structure_enters, enumeration_enters, keywords_shrink, defined_shrinks, completed_shrinks, specifiers_shrink, on_shrinks, next_parameter_shrinks}
 
 -- ---- outcomes by a test
 

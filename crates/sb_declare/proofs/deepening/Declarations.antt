@@ -26,10 +26,11 @@ use Rattle.sb_specifier.specs.Specified.{reading, again, Specified, declares_fun
 use Rattle.sb_declare.specs.Readers as reader
 use Rattle.sb_specifier.specs.Readers.{place_of_base, is_assign, is_semicolon, is_pardon, ends_nameless, Declarator, Declarations, Parts, specifiers}
 use Rattle.sb_parse.specs.Texts.{with_text}
-use Rattle.sb_declare.specs.Readers.{Opening, Listing, initialiser, opening, judged, declarator_in, initialised, next_declarator, rest_of_declaration, nameless, declaration_at}
+use Rattle.sb_initialiser.specs.Readers.{initialiser}
+use Rattle.sb_declare.specs.Readers.{Opening, Listing, opening, judged, declarator_in, initialised, next_declarator, rest_of_declaration, nameless, declaration_at}
 use Rattle.sb_declarator.specs.Readers.{on}
 use Rattle.sb_parse.proofs.Texts.{WithText, text_law}
-use Rattle.sb_declare.proofs.deepening.Members.{shrinks_text, text_deepens}
+use Rattle.sb_declarator.proofs.deepening.Members.{shrinks_text, text_deepens}
 use Rattle.sb_declare.proofs.widening.Declarations.{IsNoted}
 
 pardon_not_deep : (k : ℕ) → misplaced_before k ≡ too_deep → ⊥

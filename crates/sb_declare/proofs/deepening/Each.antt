@@ -18,11 +18,11 @@ use Rattle.sb_specifier.specs.Specified.{reading}
 use Rattle.sb_specifier.specs.Readers.{Declarations, barred, specifiers, goes_on_void}
 use Rattle.sb_declarator.specs.Readers.{on, members, parameters_at, whole_parts, no_parts, parts_at, parts}
 use Rattle.sb_declare.proofs.deepening.Barred.{begins, parameters_past}
-use Rattle.sb_declare.proofs.deepening.Declarators.{on_deepens}
+use Rattle.sb_declarator.proofs.deepening.Declarators.{on_deepens}
 use Rattle.sb_declare.proofs.widening.Each.{barred_below, void_below, volatile_below}
-use Rattle.sb_declare.proofs.deepening.Members.{members_deepen, parameters_deepen}
+use Rattle.sb_declarator.proofs.deepening.Members.{members_deepen, parameters_deepen}
 use Rattle.sb_specifier.proofs.laws.More.{FitsMembers, more_members, FitsParameters, more_parameters}
-use Rattle.sb_declare.proofs.deepening.Specifiers.{specifiers_deepen}
+use Rattle.sb_specifier.proofs.deepening.Specifiers.{specifiers_deepen}
 use Rattle.sb_declarator.proofs.laws.Parts.{members_below, parameters_below}
 use Rattle.sb_declare.proofs.deepening.Void.{void_past}
 

@@ -17,7 +17,7 @@ use Rattle.sb_declarator.specs.Readers.{on, parts}
 use Rattle.sb_declare.proofs.widening.Readers.{declaration_reader_wider}
 use Rattle.sb_declare.proofs.deepening.Each.{members_shrink_at, parameters_shrink_at, specifiers_deepen_each, declarators_deepen_each}
 use Rattle.sb_declare.proofs.deepening.Barred.{FromDepth, begins, opening_past}
-use Rattle.sb_declare.proofs.deepening.Initialisers.{initialiser_deepens}
+use Rattle.sb_initialiser.proofs.deepening.Initialisers.{initialiser_deepens}
 use Rattle.sb_declare.proofs.deepening.Declarations.{declaration_deepens, declaration_past}
 
 barred_shrinks : {A : Type 0} (w : Lexicon) (at : Seat) → Shrinks {A = A} (barred w at)

@@ -13,9 +13,9 @@ use Rattle.sb_sign.specs.declared.sign.Mark.TheVariants as mark
 use Rattle.sb_sign.specs.Signs as sign
 use Rattle.sb_tree.specs.Trees.{TypeTree, DeclTree}
 use Rattle.sb_lexicon.specs.Lexicon.{Lexicon, is_mark, is_keyword, is_type_keyword, name_of}
-use Rattle.sb_expr.specs.Pieces.{points}
+use Rattle.sb_operand.specs.Pieces.{points}
 use Rattle.sb_lexicon.specs.Tokens as expr
-use Rattle.sb_expr.specs.Readers.{begins_abstract}
+use Rattle.sb_operand.specs.Readers.{begins_abstract}
 use Rattle.sb_lexicon.specs.Tokens.{unexpected, too_deep, too_many_parameters, is_zero, is_comma, is_star, is_open, is_open_bracket}
 use Rattle.sb_lexicon.proofs.Depths.{room_within, some_room}
 use Rattle.sb_lexicon.proofs.Lexemes.{keyword_is, mark_is, mark_no_keyword, name_no_keyword}
@@ -29,10 +29,10 @@ use Rattle.sb_declarator.specs.Readers.{first_place, member_of, on, parameter, a
 use Rattle.sb_specifier.specs.Readers.{is_name, name_at, is_specifier_word, is_storage_keyword, Declarator, Declarations, Parts, is_inline, past_tag, specified, defined, completed, specifiers, goes_on_void}
 use Rattle.sb_declare.proofs.deepening.Barred.{MembersShrink, ParametersShrink, by_done, by_token}
 use Rattle.sb_declare.proofs.widening.Barred.{is_word, specified_by, by_specifier, behind_one}
-use Rattle.sb_declarator.proofs.laws.Beginnings.{mark_is_no_name}
-use Rattle.sb_declare.proofs.deepening.Shrinks.{starred, starred_shrinks, enclosed, enclosed_shrinks, bracketed, bracketed_shrinks, suffixed_shrinks, declarators_shrink}
-use Rattle.sb_declare.proofs.deepening.Members.{past_front}
-use Rattle.sb_declare.proofs.deepening.Shrinking.{shrinks_loop, specified_shrinks, defined_shrinks, completed_shrinks, on_shrinks, parameter_shrinks, next_parameter_shrinks}
+use Rattle.sb_derivation.proofs.laws.Beginnings.{mark_is_no_name}
+use Rattle.sb_declarator.proofs.deepening.Shrinks.{starred, starred_shrinks, enclosed, enclosed_shrinks, bracketed, bracketed_shrinks, suffixed_shrinks, declarators_shrink}
+use Rattle.sb_declarator.proofs.deepening.Members.{past_front}
+use Rattle.sb_declarator.proofs.deepening.Shrinking.{shrinks_loop, specified_shrinks, defined_shrinks, completed_shrinks, on_shrinks, parameter_shrinks, next_parameter_shrinks}
 use Rattle.sb_declare.proofs.widening.Void.{no_declarator, voided, base, said, said_alone, none, no_text, from_type, one_parameter}
 
 either_of : {R : Type 0} (a b : Bool) → (a || b) ≡ true → (a ≡ true → R) → (a ≡ false → b ≡ true → R) → R

@@ -24,7 +24,7 @@ use Rattle.sb_declare.specs.Reads.{FitsDeclaration}
 use Rattle.sb_specifier.specs.Readers.{Declarator, Declarations, Parts, is_semicolon, is_pardon, is_storage_keyword, is_name, ends_nameless, place_of_base}
 use Rattle.sb_declare.specs.Readers.{Opening, judged, declarator_in, rest_of_declaration, nameless, declaration_at}
 use Rattle.sb_specifier.proofs.laws.More.{is_suffix, MembersLaws, ParametersLaws, more_specified}
-use Rattle.sb_declarator.proofs.laws.Beginnings.{begins_any, head_fails, mark_is_no_name}
+use Rattle.sb_derivation.proofs.laws.Beginnings.{begins_any, head_fails, mark_is_no_name}
 use Rattle.sb_declare.proofs.laws.Judging.{pardon_no_mark, pardon_no_keyword, pardon_no_name, JudgedText, judged_law}
 use Rattle.sb_declare.proofs.laws.Listed.{declared_fits, fits_declared}
 use Rattle.sb_declarator.proofs.laws.Members.{semicolon_token, semicolon_token_is, deep_both, one_deep, deep_one}

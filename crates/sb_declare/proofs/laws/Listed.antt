@@ -8,14 +8,15 @@ use Rattle.sb_tree.specs.Plain.{note_list}
 use Rattle.sb_tree.specs.Trees as tree
 use Rattle.sb_tree.specs.Trees.{NoteTree, TypeTree, InitTree, OptionalInit, DeclTree, depth_of_decl, depth_of_notes, depth_of_type, depth_of_optional_init}
 use Rattle.sb_lexicon.specs.Lexicon.{Lexicon}
-use Rattle.sb_expr.specs.Pieces.{Piece, Constant, Pointed, Arrayed, Called, Grouped, typed}
+use Rattle.sb_operand.specs.Pieces.{Piece, Constant, Pointed, Arrayed, Called, Grouped, typed}
 use Rattle.sb_sal.proofs.Inside.{at_end, ends_with}
 use Rattle.sb_specifier.specs.Specified.{Specified, again, unqualified_again, same_if_listed, same_if_numbered, declares_function, is_bare}
 use Rattle.sb_declare.specs.Declaration.{declared_by, declaration_of}
 use Rattle.sb_declare.specs.Readers as reader
 use Rattle.sb_specifier.specs.Readers.{Declarator, Parts, is_assign}
 use Rattle.sb_declare.specs.Readers.{Opening}
-use Rattle.sb_declare.proofs.laws.Initialisers.{more_init, more_initialised}
+use Rattle.sb_initialiser.proofs.laws.Initialisers.{more_init}
+use Rattle.sb_declare.proofs.laws.Initialised.{more_initialised}
 use Rattle.sb_declare.proofs.laws.Scoping.{more_first}
 use Rattle.sb_declarator.proofs.laws.Typed.{is_base}
 

@@ -11,7 +11,7 @@ use Rattle.sb_tree.specs.Plain.{decl_list}
 use Rattle.sb_tree.specs.Trees as tree
 use Rattle.sb_tree.specs.Trees.{NoteTree, TypeTree, OptionalInit, depth_of_type, depth_of_decl, depth_of_decls}
 use Rattle.sb_lexicon.specs.Lexicon.{Lexicon}
-use Rattle.sb_expr.specs.Pieces.{typed}
+use Rattle.sb_operand.specs.Pieces.{typed}
 use Rattle.sb_lexicon.specs.Outcomes.{IsRefusedThere}
 use Rattle.sb_lexicon.proofs.Depths.{some_type_depth}
 use Rattle.sb_specifier.specs.declared.seat.Seat.{Seat}

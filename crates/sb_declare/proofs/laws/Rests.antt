@@ -21,7 +21,7 @@ use Rattle.sb_declare.specs.Readers as reader
 use Rattle.sb_specifier.specs.Readers.{Declarator, Declarations, Parts, is_semicolon}
 use Rattle.sb_declare.specs.Readers.{Opening, Listing, behind, next_declarator, rest_of_declaration}
 use Rattle.sb_specifier.proofs.laws.More.{MembersLaws, ParametersLaws}
-use Rattle.sb_declare.proofs.laws.Initialisers.{init_ends, init_ends_at_semicolon}
+use Rattle.sb_initialiser.proofs.laws.Initialisers.{init_ends, init_ends_at_semicolon}
 use Rattle.sb_declare.proofs.laws.Listed.{again_base, more_listed, is_none, listed_ends, declared_is, declaration_is, declared_fits, fits_declared}
 use Rattle.sb_declarator.proofs.laws.Members.{semicolon_token, semicolon_token_is, both_deep, deep_both, one_deep, deep_one, again_fits}
 use Rattle.sb_declare.proofs.laws.Scoping.{FitsOpening, FitsFirst, IsRest, an_end, another, FitsRest}

@@ -32,10 +32,10 @@ use Rattle.sb_parse.specs.Texts.{with_text}
 use Rattle.sb_declarator.specs.Readers.{declarators}
 use Rattle.sb_specifier.proofs.laws.More.{is_suffix, more_pieces, more_declarator, FitsDeclarator, MembersLaws, ParametersLaws}
 use Rattle.sb_parse.proofs.Texts.{WithText, text_law, text_follows}
-use Rattle.sb_declare.proofs.laws.Initialisers.{more_initialised, FitsInitialised, initialised_law}
-use Rattle.sb_declarator.proofs.laws.Beginnings.{is_nothing_by, begins_any, some_begins}
+use Rattle.sb_declare.proofs.laws.Initialised.{more_initialised, FitsInitialised, initialised_law}
+use Rattle.sb_derivation.proofs.laws.Beginnings.{is_nothing_by, begins_any, some_begins}
 use Rattle.sb_declarator.proofs.laws.Declarators.{declarators_law}
-use Rattle.sb_declarator.proofs.laws.Heads.{begins_specifier, specifiers_begin}
+use Rattle.sb_derivation.proofs.laws.Heads.{begins_specifier, specifiers_begin}
 use Rattle.sb_declare.proofs.laws.Judging.{pardon_no_mark, fitting, misfitting, JudgedText, judged_law}
 use Rattle.sb_declare.proofs.laws.Listed.{function_of, base_no_function, more_behind, more_listed, is_none, listed_later}
 use Rattle.sb_declarator.proofs.laws.Parameter.{after_notes}

@@ -1,4 +1,4 @@
--- The readers of initialisers and declarations of a depth that are made of those of the next lower one.
+-- The readers of declarations of a depth that are made of those of the next lower one.
 use Rattle.std.proofs.Common.{◌≡◌, ℕ, zero, suc, ◌-◌, ◌<◌, ◌≤◌, List, refl, ap, arith}
 use Rattle.sb_base.specs.declared.interning.Name.{Name}
 use Rattle.sb_base.specs.declared.tokens.Token.{Token}
@@ -6,15 +6,7 @@ use Rattle.sb_specifier.specs.declared.seat.Seat.TheVariants as seat
 use Rattle.sb_declarator.specs.Meaning.{inside}
 use Rattle.sb_specifier.specs.Parts as part
 use Rattle.sb_specifier.specs.Specified.{reading}
-use Rattle.sb_lexicon.specs.Lexicon.{Lexicon}
-use Rattle.sb_declare.specs.Readers.{initialiser, initialiser_at, declaration_at, declaration_reader}
-
-pub some_initialiser : (w : Lexicon) (left : ℕ) (ts : List Token) → 0 < left → initialiser w left ts ≡ initialiser_at w (left - 1) (initialiser w (left - 1)) ts
-unfolding initialiser
-some_initialiser w zero ts some = absurd (omega arith)
-some_initialiser w (suc n) ts some = ap (λ m. initialiser_at w m (initialiser w m) ts) (let same : n ≡ suc n - 1 = omega arith in same)
-
--- ---- a declaration in a scope
+use Rattle.sb_declare.specs.Readers.{declaration_at, declaration_reader}
 
 pub no_declared : (texts : List (List ℕ)) (left : ℕ) (types : List Name) (ts : List Token) → left < 2 → declaration_reader texts left types ts ≡ part.no_declaration (reading texts types) seat.Scope ts
 no_declared texts zero types ts few = refl

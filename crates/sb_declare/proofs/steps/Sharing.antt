@@ -55,6 +55,17 @@ pardoned_faults texts below inner (Some left) count a ts (Refused reason k) stop
     by_token (done t mid) e = absurd (cc e)
     by_token (stop n l) e = ap stopped e
 
+-- ---- a value that what is read last does not change
+
+pub ended : {A B C : Type 0} (o : Outcome Token A) (p : Parser Token B) (c : C) (b : B) (rest : List Token) → and_then o (λ a. p) ≡ done b rest → and_then o (λ a. p >>= (λ t. pure c)) ≡ done c rest
+ended (done a mid) p c b rest e = ap (λ x. and_then x (λ t. pure c)) e
+ended (stop n left) p c b rest e = absurd (cc e)
+
+pub ended_faults : {A B C : Type 0} (o : Outcome Token A) (p : Parser Token B) (c : C) (e : ReadFault) → IsFault (and_then o (λ a. p)) e → IsFault (and_then o (λ a. p >>= (λ t. pure c))) e
+ended_faults o p c Memory stops = stops
+ended_faults (done a mid) p c (Refused reason left) stops = ap (λ x. and_then x (λ t. pure c)) stops
+ended_faults (stop n k) p c (Refused reason left) stops = ap stopped stops
+
 -- ---- one declarator
 
 same_typedef : (s : Storage) → reader.is_typedef s ≡ part.is_typedef s

@@ -38,7 +38,7 @@ use Rattle.sb_declare.proofs.laws.Scoping.{FitsOpening, more_opening, FitsFirst,
 use Rattle.sb_declare.proofs.laws.Scoped.{noted, opening_law, declarator_law, first_law}
 use Rattle.sb_specifier.proofs.telling.Shown.{barred_telling}
 use Rattle.sb_specifier.proofs.telling.Specifiers.{specifiers_telling}
-use Rattle.sb_declare.proofs.telling.Initialisers.{initialised_telling}
+use Rattle.sb_declare.proofs.telling.Initialised.{initialised_telling}
 use Rattle.sb_declarator.proofs.telling.Parts.{TellingParts, on_telling, parts_telling}
 use Rattle.sb_specifier.proofs.telling.Reasons.{reasons, notes_telling}
 use Rattle.sb_parse.proofs.Telling.{still, Tells, Telling, tells_behind, in_turn, by_choice, one_by_one, stopping, a_token, text_telling}

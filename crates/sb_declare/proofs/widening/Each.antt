@@ -17,9 +17,9 @@ use Rattle.sb_specifier.specs.Specified.{reading}
 use Rattle.sb_specifier.specs.Readers.{barred, specifiers, goes_on_void}
 use Rattle.sb_declarator.specs.Readers.{on, parts}
 use Rattle.sb_declare.proofs.widening.Barred.{parameters_barred}
-use Rattle.sb_declare.proofs.widening.Declarators.{BehindVoid, on_wider}
-use Rattle.sb_declare.proofs.widening.Members.{members_wider, parameters_wider}
-use Rattle.sb_declare.proofs.widening.Specifiers.{specifiers_wider}
+use Rattle.sb_declarator.proofs.widening.Declarators.{BehindVoid, on_wider}
+use Rattle.sb_declarator.proofs.widening.Members.{members_wider, parameters_wider}
+use Rattle.sb_specifier.proofs.widening.Specifiers.{specifiers_wider}
 use Rattle.sb_declare.proofs.widening.Void.{behind_void_alone, volatile_behind_void}
 
 module _ (texts : List (List ℕ)) where

@@ -8,7 +8,7 @@ use Rattle.sb_specifier.specs.Readers.{barred}
 use Rattle.sb_declarator.specs.Readers.{parts}
 use Rattle.sb_declare.specs.Readers.{declaration_at, declaration_reader}
 use Rattle.sb_declare.proofs.widening.Barred.{declaration_barred}
-use Rattle.sb_declare.proofs.widening.Initialisers.{initialiser_wider}
+use Rattle.sb_initialiser.proofs.widening.Initialisers.{initialiser_wider}
 use Rattle.sb_declare.proofs.widening.Each.{each_specifiers, each_declarator}
 use Rattle.sb_declare.proofs.widening.Declarations.{declaration_wider}
 

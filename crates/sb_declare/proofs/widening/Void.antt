@@ -17,7 +17,7 @@ use Rattle.sb_lexicon.specs.declared.words.Kind.TheVariants as kinds
 use Rattle.sb_lexicon.specs.Lexicon.{Lexicon, is_keyword, is_type_keyword, is_type_name}
 use Rattle.sb_lexicon.specs.Words.{Words, Whole, no_words}
 use Rattle.sb_lexicon.specs.Tokens as expr
-use Rattle.sb_expr.specs.Readers.{begins_abstract}
+use Rattle.sb_operand.specs.Readers.{begins_abstract}
 use Rattle.sb_lexicon.specs.Tokens.{unexpected, is_close, is_comma, is_star, is_open, is_open_bracket}
 use Rattle.sb_lexicon.proofs.Lexemes.{keyword_is}
 use Rattle.sb_parse.proofs.Ways.{first_fails, second_fails}
@@ -31,7 +31,7 @@ use Rattle.sb_specifier.specs.Readers.{is_name, is_specifier_word, opens_tag, pa
 use Rattle.sb_declarator.specs.Readers.{member_of, first_place, next_parameter, declarators, declarator_at, direct, first, name_or_none, unnamed, on, parameter, parameters_at}
 use Rattle.sb_declare.proofs.widening.Barred.{is_word, by_specifier, by_word, behind_one, later, notes_at}
 use Rattle.sb_specifier.proofs.laws.Keywords.{type_specifies}
-use Rattle.sb_declare.proofs.widening.Declarators.{BehindVoid}
+use Rattle.sb_declarator.proofs.widening.Declarators.{BehindVoid}
 
 -- ---- tests of the next token
 

@@ -2,7 +2,7 @@ use Rattle.std.proofs.Common.{◌≡◌, ◌∙◌, ◌+◌, ◌-◌, false, not
 use Rattle.std.proofs.lemmas.Result.{err_from_is_err_and}
 use Rattle.sb_parse.specs.Parser.{done}
 use Rattle.sb_lexicon.specs.Meaning.{meant, IsFault}
-use Rattle.sb_declarator.specs.Declarators.{plain_declarator}
+use Rattle.sb_derivation.specs.Declarators.{plain_declarator}
 use Rattle.sb_declare.specs.Openings as part
 use Rattle.sb_declarator.specs.Readers.{declarators, parts}
 use Rattle.sb_specifier.specs.Specified.{reading, bearer_of, declares_function}
@@ -27,7 +27,7 @@ returns-in_err-judged c =
     ∙ ap (λ b. declarators (meant w) (not b) false a.below (parts texts a.below) (a.below - a.depth) 0 a.tokens.now) (sym c.is_typedef-functions.ensures)
     ∙ c.in_ok-found.ensures.read.0 in
     let bearer : c.bearer_of-bearer.result ≡ bearer_of (declares_function d.pieces) = c.bearer_of-bearer.ensures ∙ ap bearer_of c.declares_function.ensures in
-    let count : c.in_ok-so_far.so_far ≡ a.count + length (take (length a.tokens.now - length rest) a.tokens.now) = c.in_ok-so_far.ensures.sum ∙ ap (λ l. a.count + length l) c.front.ensures in
-    let stops = subst (λ b. IsFault (part.pardoned (part.misplacement texts a.below outer noted b) c.in_ok-so_far.so_far rest) e) bearer c.in_err-judged.ensures in
+    let count : a.count + length c.front.result.now ≡ a.count + length (take (length a.tokens.now - length rest) a.tokens.now) = ap (λ l. a.count + length l) c.front.ensures.front in
+    let stops = subst (λ b. IsFault (part.pardoned (part.misplacement texts a.below outer noted b) (a.count + length c.front.result.now) rest) e) bearer c.in_err-judged.ensures in
     let there = subst (λ n. IsFault (part.pardoned (part.misplacement texts a.below outer noted (bearer_of (declares_function d.pieces))) n rest) e) count stops in
     record { read = rw (p.1, p.2) (judged_faults texts a.below outer noted st w.types.now a.depth a.count a.tokens.now d rest read e there) }

@@ -2,9 +2,9 @@ use Rattle.std.proofs.Common.{◌<◌, sym, length, arith}
 use Rattle.std.proofs.lemmas.Result.{err_from_is_err_and}
 use Rattle.sb_lexicon.specs.Meaning.{meant}
 use Rattle.sb_lexicon.proofs.Loops.{loop_ends, loop_over, loop_goes, loop_faults}
-use Rattle.sb_declare.specs.Initialisers.{plain_initialisers}
-use Rattle.sb_declare.proofs.steps.Readers.{some_initialiser}
-use Rattle.sb_declare.proofs.initialisers.+initialising.Goals as goal
+use Rattle.sb_initialiser.specs.Initialisers.{plain_initialisers}
+use Rattle.sb_initialiser.proofs.Steps.{some_initialiser}
+use Rattle.sb_initialiser.proofs.initialisers.+initialising.Goals as goal
 
 pub more_initialisers-returns-then-not-is_unclosed-clause-read : goal.more_initialisers-returns-then-not-is_unclosed-clause-read
 more_initialisers-returns-then-not-is_unclosed-clause-read t c = (loop_ends _ _ (plain_initialisers c.args.first) c.args.first.rest.now c.loop-turn._turn (length c.args.first.rest.now) (plain_initialisers c.loop-turn.found) c.loop-turn.found.rest.now c.loop-turn.invariant.0 (sym c.if-not-is_unclosed.ensures), c.loop-turn.invariant.1)

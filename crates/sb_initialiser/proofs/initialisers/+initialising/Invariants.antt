@@ -1,10 +1,10 @@
 use Rattle.std.proofs.Common.{◌≡◌, ◌≤◌, ◌+◌, ◌*◌, ◌-◌, length, not}
 use Rattle.sb_parse.specs.Parser.{loop}
 use Rattle.sb_lexicon.specs.Meaning.{meant}
-use Rattle.sb_declare.specs.Initialisers.{plain_initialisers, AreInitialisersKnown}
-use Rattle.sb_declare.specs.Readers as spec
+use Rattle.sb_initialiser.specs.Initialisers.{plain_initialisers, AreInitialisersKnown}
+use Rattle.sb_initialiser.specs.Readers as spec
 use Rattle.sb_specifier.specs.Readers.{is_close_brace}
-use Rattle.sb_declare.proofs.initialisers.+initialising.Given as goal
+use Rattle.sb_initialiser.proofs.initialisers.+initialising.Given as goal
 
 abbrev pub decreases-initialiser : goal.decreases-initialiser
 decreases-initialiser l = 10 * l.left
@@ -20,6 +20,9 @@ decreases-more_initialisers l = 10 * l.below + 7
 
 abbrev pub decreases-next_initialiser : goal.decreases-next_initialiser
 decreases-next_initialiser l = 10 * l.below + 6
+
+abbrev pub decreases-one_initialiser : goal.decreases-one_initialiser
+decreases-one_initialiser l = 10 * l.below + 5
 
 abbrev pub invariant-more_initialisers-loop-turn : goal.invariant-more_initialisers-loop-turn
 invariant-more_initialisers-loop-turn l =

@@ -15,10 +15,10 @@ use Rattle.sb_lexicon.proofs.Wider.{room_wider}
 use Rattle.sb_sal.proofs.Deepening.{Past, Shrinks, Deepens, shrinks_pure, shrinks_refuse, shrinks_token, shrinks_then, shrinks_choose, shrinks_either, shrinks_guard, shrinks_looped, enters, past_bind, in_order, choosing, either_way, turning, still_pure, open_room}
 use Rattle.sb_sal.proofs.ExprDeepening.{expr_deepens}
 use Rattle.sb_sal.proofs.Lowered.{not_unexpected, raised, expects, unexpecting, lacking}
-use Rattle.sb_declare.specs.Readers.{Initialisers, next_initialiser, braces, initialiser_at, initialiser}
+use Rattle.sb_initialiser.specs.Readers.{Initialisers, next_initialiser, braces, initialiser_at, initialiser}
 use Rattle.sb_specifier.specs.Readers.{is_close_brace, begins_designator}
-use Rattle.sb_declare.proofs.widening.Initialisers.{initialiser_wider}
-use Rattle.sb_declare.proofs.deepening.Specifiers.{barred_token}
+use Rattle.sb_initialiser.proofs.widening.Initialisers.{initialiser_wider}
+use Rattle.sb_specifier.proofs.deepening.Specifiers.{barred_token}
 
 module _ (w : Lexicon) where
   -- ---- what is left

@@ -13,9 +13,9 @@ use Rattle.sb_expr.proofs.widening.EachDepth.{parts_wider}
 use Rattle.sb_expr.proofs.widening.Starts.{expr_starts}
 use Rattle.sb_parse.proofs.Ways.{first_fails, second_fails}
 use Rattle.sb_lexicon.proofs.Wider.{Held, short, same, Wider, alike, one_by_one, behind, before, guarding, choosing, turning, room_wider}
-use Rattle.sb_declare.specs.Readers.{Initialisers, next_initialiser, braces, initialiser_at, initialiser}
+use Rattle.sb_initialiser.specs.Readers.{Initialisers, next_initialiser, braces, initialiser_at, initialiser}
 use Rattle.sb_specifier.specs.Readers.{is_close_brace, begins_designator}
-use Rattle.sb_declare.proofs.widening.Specifiers.{either_way}
+use Rattle.sb_specifier.proofs.widening.Specifiers.{either_way}
 
 module _ (w : Lexicon) where
   -- ---- with room

@@ -23,9 +23,9 @@ use Rattle.sb_expr.proofs.tokens.More.{more_assignment}
 use Rattle.sb_expr.proofs.Tying.{lawful_parts}
 use Rattle.sb_parse.proofs.Ways.{closing, goes_on_where, turned_once_more}
 use Rattle.sb_specifier.specs.Specified.{reading}
-use Rattle.sb_declare.specs.Declaration.{IsInitialiser, is_value, is_list, AreInitialisers, first_initialiser, initialiser_behind, comma_behind, IsInitialised, no_initialiser, an_initialiser}
+use Rattle.sb_initialiser.specs.Initialiser.{IsInitialiser, is_value, is_list, AreInitialisers, first_initialiser, initialiser_behind, comma_behind}
 use Rattle.sb_specifier.specs.Readers.{is_semicolon, Parts, designated, begins_designator, is_assign, is_close_brace}
-use Rattle.sb_declare.specs.Readers.{Initialisers, next_initialiser, braces, initialiser_at, initialiser, initialised}
+use Rattle.sb_initialiser.specs.Readers.{Initialisers, next_initialiser, braces, initialiser_at, initialiser}
 use Rattle.sb_specifier.proofs.laws.Commas.{CommaText, comma_or_none, with_comma}
 use Rattle.sb_parse.proofs.Choices.{asked_if}
 use Rattle.sb_specifier.proofs.laws.Names.{close_brace_token, close_brace_token_is, mark_begins_none}
@@ -65,7 +65,7 @@ list_depth w n deep _ _ _ (initialiser_behind xs ys is i are one) =
     omega arith
 list_depth w n deep _ _ _ (comma_behind c ts is h are) = list_depth w n deep ts is false are
 
-deep_init : (w : Lexicon) (ts : List Token) (i : InitTree) → IsInitialiser w ts i → 2 ≤ depth_of_init i
+pub deep_init : (w : Lexicon) (ts : List Token) (i : InitTree) → IsInitialiser w ts i → 2 ≤ depth_of_init i
 deep_init w _ _ (is_value ts e is) = let some : 1 ≤ depth_of_expr e = some_depth e in omega arith
 deep_init w _ _ (is_list o c ts is comma opens closes are) = let some : 1 ≤ depth_of_inits (init_list is) = list_depth w 1 (λ ts i one. some_init_depth i) ts is comma are in omega arith
 
@@ -332,45 +332,3 @@ pub initialiser_law : (w : Lexicon) (below : ℕ) → 1 ≤ below → Lawful (Fi
 unfolding initialiser
 initialiser_law w zero some = absurd (omega arith)
 initialiser_law w (suc below) some = at_law w (suc below) (initialiser w (suc below)) some (λ two. initialiser_law w below (omega arith))
-
--- ---- behind a declarator
-
-abbrev pub FitsInitialised : Lexicon → ℕ → List Token → OptionalInit → Type 0
-FitsInitialised w below ts init = IsInitialised w ts init × (depth_of_optional_init init ≤ below)
-
-abbrev pub more_initialised : Lexicon → OptionalInit → Token → Bool
-more_initialised w tree.NoInit t = is_assign w t
-more_initialised w (tree.AnInit i) t = more_init w i t
-
-module _ (texts : List (List ℕ)) (below : ℕ) (part : ℕ → Parts) (types : List Name) where
-  abbrev reads : Lexicon
-  reads = reading texts types
-
-  abbrev InitialisedText : List Token → OptionalInit → Type 0
-  InitialisedText = Either (Unbarred (nat_lt below 2) (Opened (is_assign reads) (λ a. Mapped tree.AnInit (FitsInitialiser reads below)))) (IsEmpty tree.NoInit)
-
-  reads_law : nat_lt below 2 ≡ false → Lawful (FitsInitialiser reads below) (more_init reads) (initialiser reads below)
-  reads_law room = by_depth below (within_room below 2 room)
-    where
-      by_depth : (n : ℕ) → 2 ≤ n → Lawful (FitsInitialiser reads n) (more_init reads) (initialiser reads n)
-      by_depth zero two = absurd (omega arith)
-      by_depth (suc n) two = initialiser_law reads n (omega arith)
-
-  to_initialised : (ts : List Token) (i : OptionalInit) → InitialisedText ts i → FitsInitialised reads below ts i
-  to_initialised ts i (inl u) = let o = u.is in rw (o.split, o.is.same) (an_initialiser o.opening o.rest o.is.value o.passes o.is.is.0, o.is.is.1)
-  to_initialised ts i (inr e) = rw (e.none, e.same) (no_initialiser, omega arith)
-
-  from_initialised : (ts : List Token) (i : OptionalInit) → IsInitialised reads ts i → depth_of_optional_init i ≤ below → InitialisedText ts i
-  from_initialised _ _ no_initialiser deep = inr (record { none = refl; same = refl })
-  from_initialised _ _ (an_initialiser a ts i assigns is) deep =
-      let least : 2 ≤ depth_of_init i = deep_init reads ts i is in
-      inl (record { open_way = room_within below 2 (omega arith); is = record { opening = a; rest = ts; split = refl; passes = assigns; is = record { value = i; is = (is, deep); same = refl } } })
-
-  pub initialised_law : Lawful (FitsInitialised reads below) (more_initialised reads) (initialised texts below part types)
-  unfolding initialised
-  initialised_law =
-      via (perhaps_of tree.NoInit (guarded (nat_lt below 2) too_deep (λ room. at_head (is_assign reads)
-      (λ t h. opened {Is = λ a. Mapped tree.AnInit (FitsInitialiser reads below)} {q = λ a. initialiser reads below >>= (λ i. pure (tree.AnInit i))} unexpected (is_assign reads) t h
-      (λ a passes. map_of (reads_law room) tree.AnInit (more_initialised reads) (λ i t. refl)))
-      (λ ts i o. opened_heads ts i o))) (λ t. refl))
-      to_initialised (λ ts i f. from_initialised ts i f.0 f.1) (initialised texts below part types) (λ ts. refl)

@@ -2,13 +2,15 @@
 ghost use Rattle.std.specs.Prelude.{◌≡◌, ◌≤◌, ◌<◌, ◌+◌, not, IfOk};
 ghost use Rattle.sb_parse.specs.Parser.{at_next, looped};
 ghost use Rattle.sb_lexicon.specs.Meaning.{meant, IsFault};
-ghost use Rattle.sb_declare.specs.Initialisers.{plain_initialisers, AreInitialisersKnown, ReadsInitial, ReadsInitialisers, no_initialiser};
+ghost use Rattle.sb_initialiser.specs.Initialisers.{plain_initialisers, AreInitialisersKnown, ReadsInitial, ReadsInitialisers, ReadsListed, no_initialiser};
 ghost use Rattle.sb_specifier.specs.Readers.{begins_designator, is_close_brace};
-ghost use Rattle.sb_declare.specs.Readers as spec;
+ghost use Rattle.sb_initialiser.specs.Readers as spec;
+ghost use Rattle.sb_tree.specs.Plain.{plain_inits};
 
 use sb_base::Token;
-use sb_expr::{Level, is_expr_next, within};
+use sb_expr::{Level, within};
 use sb_lexicon::{Feature, Lexicon, ReadFault, is_mark, is_mark_next, take_mark};
+use sb_operand::is_expr_next;
 use sb_sign::Mark;
 use sb_specifier::comma_behind;
 use sb_tree::Init;
@@ -27,6 +29,15 @@ pub struct Initial<'a> {
 #[derive(Drop)]
 pub(crate) struct Initialisers<'a> {
     pub(crate) list: Vec<Init>,
+    pub(crate) depth: u32,
+    pub(crate) more: bool,
+    pub(crate) rest: &'a [Token],
+}
+
+/// An initialiser in a list, how deep it is, whether a comma stands behind it, and the tokens after that.
+#[derive(Drop)]
+pub(crate) struct Listed<'a> {
+    pub(crate) tree: Init,
     pub(crate) depth: u32,
     pub(crate) more: bool,
     pub(crate) rest: &'a [Token],
@@ -64,20 +75,21 @@ fn no_room(lexicon: &Lexicon, tokens: &[Token]) -> ReadFault
     ReadFault::unexpected(tokens)
 }
 
-/// One more initialiser, and a comma where there is one.
+/// One more initialiser, and a comma where there is one: those before it are only lent.
 #[cycle(initialising)]
-#[tactic(auto, unfolding(crate::specs::Readers::next_initialiser), using(sb_specifier::proofs::Growing::more_inits, sb_specifier::proofs::Growing::depth_of_more_inits))]
-fn next_initialiser<'a>(
+#[tactic(auto, unfolding(crate::specs::Readers::next_initialiser))]
+fn one_initialiser<'a>(
     alloc: Global,
     lexicon: &Lexicon,
     below: u32,
-    so_far: Initialisers<'a>,
-) -> Result<Initialisers<'a>, ReadFault>
+    so_far: &Initialisers<'a>,
+) -> Result<Listed<'a>, ReadFault>
     requires shallow { below < 200 }
-    requires known { AreInitialisersKnown so_far }
-    requires low { so_far.depth ≤ below }
-    ensures read { ReadsInitialisers (spec.next_initialiser (meant lexicon.now) below (spec.initialiser (meant lexicon.now) below) (plain_initialisers so_far.entry) so_far.entry.rest.now) result }
-    ensures depth { IfOk result (λ is. is.depth ≤ below) }
+    ensures read { ReadsListed (plain_inits so_far.now.list.items)
+        (spec.next_initialiser (meant lexicon.now) below
+        (spec.initialiser (meant lexicon.now) below) (plain_initialisers so_far.now)
+        so_far.now.rest.now) result }
+    ensures depth { IfOk result (λ i. i.depth ≤ below) }
 {
     if !so_far.more {
         return Err(ReadFault::unexpected(so_far.rest));
@@ -87,13 +99,40 @@ fn next_initialiser<'a>(
     }
     let next = initialiser(alloc, lexicon, below, so_far.rest)?;
     let comma = comma_behind(lexicon.names, next.rest)?;
+    Ok(Listed {
+        tree: next.tree,
+        depth: next.depth,
+        more: comma.value,
+        rest: comma.rest,
+    })
+}
+
+/// The initialisers so far, and one more.
+#[cycle(initialising)]
+#[tactic(auto, using(sb_specifier::proofs::Growing::more_inits, sb_specifier::proofs::Growing::depth_of_more_inits))]
+fn next_initialiser<'a>(
+    alloc: Global,
+    lexicon: &Lexicon,
+    below: u32,
+    so_far: Initialisers<'a>,
+) -> Result<Initialisers<'a>, ReadFault>
+    requires shallow { below < 200 }
+    requires known { AreInitialisersKnown so_far }
+    requires low { so_far.depth ≤ below }
+    ensures read { ReadsInitialisers
+        (spec.next_initialiser (meant lexicon.now) below
+        (spec.initialiser (meant lexicon.now) below) (plain_initialisers so_far.entry)
+        so_far.entry.rest.now) result }
+    ensures depth { IfOk result (λ is. is.depth ≤ below) }
+{
+    let next = one_initialiser(alloc, lexicon, below, &so_far)?;
     let mut list = so_far.list;
     list.push(next.tree)?;
     Ok(Initialisers {
         list,
         depth: so_far.depth.max(next.depth),
-        more: comma.value,
-        rest: comma.rest,
+        more: next.more,
+        rest: next.rest,
     })
 }
 
@@ -108,7 +147,11 @@ fn more_initialisers<'a>(
     requires shallow { below < 200 }
     requires known { AreInitialisersKnown first }
     requires low { first.depth ≤ below }
-    ensures read { ReadsInitialisers (looped (λ t. not (is_close_brace (meant lexicon.now) t)) (spec.next_initialiser (meant lexicon.now) below (spec.initialiser (meant lexicon.now) below)) (plain_initialisers first.entry) first.entry.rest.now) result }
+    ensures read { ReadsInitialisers
+        (looped (λ t. not (is_close_brace (meant lexicon.now) t))
+        (spec.next_initialiser (meant lexicon.now) below
+        (spec.initialiser (meant lexicon.now) below)) (plain_initialisers first.entry)
+        first.entry.rest.now) result }
     ensures depth { IfOk result (λ is. is.depth ≤ below) }
 {
     let most = first.rest.len();
@@ -132,7 +175,9 @@ fn braces<'a>(
     tokens: &'a [Token],
 ) -> Result<Initial<'a>, ReadFault>
     requires shallow { below < 200 }
-    ensures read { ReadsInitial (spec.braces (meant lexicon.now) below (spec.initialiser (meant lexicon.now) below) tokens.now) result }
+    ensures read { ReadsInitial
+        (spec.braces (meant lexicon.now) below (spec.initialiser (meant lexicon.now) below)
+        tokens.now) result }
     ensures depth { IfOk result (λ i. i.depth ≤ below + 1) }
 {
     let open = take_mark(lexicon, Mark::OpenBrace, tokens)?;
@@ -161,7 +206,9 @@ fn initialiser_at<'a>(
     tokens: &'a [Token],
 ) -> Result<Initial<'a>, ReadFault>
     requires shallow { below < 200 }
-    ensures read { ReadsInitial (spec.initialiser_at (meant lexicon.now) below (spec.initialiser (meant lexicon.now) below) tokens.now) result }
+    ensures read { ReadsInitial
+        (spec.initialiser_at (meant lexicon.now) below (spec.initialiser (meant lexicon.now) below)
+        tokens.now) result }
     ensures depth { IfOk result (λ i. i.depth ≤ below + 1) }
 {
     if !is_mark_next(lexicon, Mark::OpenBrace, tokens) {

@@ -1,0 +1,5 @@
+pub mod Steps
+pub mod deepening
+pub mod laws
+pub mod telling
+pub mod widening

@@ -1,0 +1,3 @@
+pub mod Initialiser
+pub mod Readers
+pub mod Initialisers
