@@ -20,10 +20,12 @@ use std::alloc::Global;
 fn notes_at(alloc: Global, lexicon: &Lexicon, at: &mut Cursor) -> Result<Vec<Note>, Stop>
     requires next { at.old.next ≤ length at.old.tokens.now }
     requires shallow { at.old.left ≤ 200 }
-    ensures read { IsNotesRead (meant lexicon.now) at.old.tokens.now at.old.next at.old.left at.new.next result }
+    ensures read { IsNotesRead (meant lexicon.now) at.old.tokens.now at.old.next at.old.left
+        at.new.next result }
     ensures tokens { at.new.tokens ≡ at.old.tokens }
     ensures left { at.new.left ≡ at.old.left }
-    ensures within { OnOk result ((at.old.next ≤ at.new.next) × (at.new.next ≤ length at.old.tokens.now)) }
+    ensures within { OnOk result
+        ((at.old.next ≤ at.new.next) × (at.new.next ≤ length at.old.tokens.now)) }
 {
     match notes_within(
         alloc,
@@ -50,13 +52,21 @@ pub fn notes(
 ) -> Result<Vec<Note>, Stop>
     requires next { at.old.next ≤ length at.old.tokens.now }
     requires left { at.old.left ≤ 200 }
-    ensures read { IsNotesRead (lexicon names.now.texts scope.now.types.items) at.old.tokens.now at.old.next at.old.left at.new.next result }
-    ensures longest { IsLongestRead (FitsNotes (lexicon names.now.texts scope.now.types.items) at.old.left (may_stand (lexicon names.now.texts scope.now.types.items) bearer.Any)) (λ ns v. ns ≡ plain_notes v.items) at.old.tokens.now at.old.next at.new.next result }
-    ensures reason { HasNoteReason (lexicon names.now.texts scope.now.types.items) at.old.left (may_stand (lexicon names.now.texts scope.now.types.items) bearer.Any) at.old.tokens.now at.old.next result }
-    ensures one { HasOneTree (AreNotes (lexicon names.now.texts scope.now.types.items) (may_stand (lexicon names.now.texts scope.now.types.items) bearer.Any)) }
+    ensures read { IsNotesRead (lexicon names.now.texts scope.now.types.items) at.old.tokens.now
+        at.old.next at.old.left at.new.next result }
+    ensures longest { IsLongestRead
+        (FitsNotes (lexicon names.now.texts scope.now.types.items) at.old.left
+        (may_stand (lexicon names.now.texts scope.now.types.items) bearer.Any))
+        (λ ns v. ns ≡ plain_notes v.items) at.old.tokens.now at.old.next at.new.next result }
+    ensures reason { HasNoteReason (lexicon names.now.texts scope.now.types.items) at.old.left
+        (may_stand (lexicon names.now.texts scope.now.types.items) bearer.Any) at.old.tokens.now
+        at.old.next result }
+    ensures one { HasOneTree (AreNotes (lexicon names.now.texts scope.now.types.items)
+        (may_stand (lexicon names.now.texts scope.now.types.items) bearer.Any)) }
     ensures tokens { at.new.tokens ≡ at.old.tokens }
     ensures left { at.new.left ≡ at.old.left }
-    ensures within { OnOk result ((at.old.next ≤ at.new.next) × (at.new.next ≤ length at.old.tokens.now)) }
+    ensures within { OnOk result
+        ((at.old.next ≤ at.new.next) × (at.new.next ≤ length at.old.tokens.now)) }
 {
     let lexicon = Lexicon {
         names,

@@ -5,14 +5,15 @@ ghost use Rattle.sb_lexicon.specs.Meaning.{meant};
 ghost use Rattle.sb_expr.specs.Reads.{FitsExpr, FitsType, IsExprRead, IsTypeRead};
 ghost use Rattle.sb_lexicon.specs.Outcomes.{lexicon, IsLongestRead};
 ghost use Rattle.sb_expr.specs.Expression.{Sequence, IsExpr, IsType};
-ghost use Rattle.sb_expr.specs.Pieces.{type_of};
+ghost use Rattle.sb_operand.specs.Pieces.{type_of};
 ghost use Rattle.sb_lexicon.specs.Reasons.{HasReason};
 ghost use Rattle.sb_expr.specs.Calls.{MakesType};
 ghost use Rattle.sb_tree.specs.Plain.{plain_expr, plain_type};
 
 use sb_base::{Names, Stop};
-use sb_expr::{Level, Piece, type_within, typed, within};
+use sb_expr::{Level, type_within, within};
 use sb_lexicon::{Lexicon, stop_at, tokens_from};
+use sb_operand::{Piece, typed};
 use sb_tree::{Cursor, Expr, Scope, TypeName};
 use std::alloc::Global;
 
@@ -20,10 +21,12 @@ use std::alloc::Global;
 fn expr_at(alloc: Global, lexicon: &Lexicon, at: &mut Cursor) -> Result<Expr, Stop>
     requires next { at.old.next ≤ length at.old.tokens.now }
     requires shallow { at.old.left ≤ 200 }
-    ensures read { IsExprRead (meant lexicon.now) at.old.tokens.now at.old.next at.old.left at.new.next result }
+    ensures read { IsExprRead (meant lexicon.now) at.old.tokens.now at.old.next at.old.left
+        at.new.next result }
     ensures tokens { at.new.tokens ≡ at.old.tokens }
     ensures left { at.new.left ≡ at.old.left }
-    ensures within { OnOk result ((at.old.next ≤ at.new.next) × (at.new.next ≤ length at.old.tokens.now)) }
+    ensures within { OnOk result
+        ((at.old.next ≤ at.new.next) × (at.new.next ≤ length at.old.tokens.now)) }
 {
     match within(
         alloc,
@@ -45,13 +48,19 @@ fn expr_at(alloc: Global, lexicon: &Lexicon, at: &mut Cursor) -> Result<Expr, St
 pub fn expr(alloc: Global, names: &Names, scope: &Scope, at: &mut Cursor) -> Result<Expr, Stop>
     requires next { at.old.next ≤ length at.old.tokens.now }
     requires left { at.old.left ≤ 200 }
-    ensures read { IsExprRead (lexicon names.now.texts scope.now.types.items) at.old.tokens.now at.old.next at.old.left at.new.next result }
-    ensures longest { IsLongestRead (FitsExpr (lexicon names.now.texts scope.now.types.items) at.old.left Sequence) (λ a e. a ≡ plain_expr e) at.old.tokens.now at.old.next at.new.next result }
-    ensures reason { HasReason (lexicon names.now.texts scope.now.types.items) (IsExpr (lexicon names.now.texts scope.now.types.items) Sequence) at.old.tokens.now at.old.next result }
+    ensures read { IsExprRead (lexicon names.now.texts scope.now.types.items) at.old.tokens.now
+        at.old.next at.old.left at.new.next result }
+    ensures longest { IsLongestRead
+        (FitsExpr (lexicon names.now.texts scope.now.types.items) at.old.left Sequence)
+        (λ a e. a ≡ plain_expr e) at.old.tokens.now at.old.next at.new.next result }
+    ensures reason { HasReason (lexicon names.now.texts scope.now.types.items)
+        (IsExpr (lexicon names.now.texts scope.now.types.items) Sequence) at.old.tokens.now
+        at.old.next result }
     ensures one { HasOneTree (IsExpr (lexicon names.now.texts scope.now.types.items) Sequence) }
     ensures tokens { at.new.tokens ≡ at.old.tokens }
     ensures left { at.new.left ≡ at.old.left }
-    ensures within { OnOk result ((at.old.next ≤ at.new.next) × (at.new.next ≤ length at.old.tokens.now)) }
+    ensures within { OnOk result
+        ((at.old.next ≤ at.new.next) × (at.new.next ≤ length at.old.tokens.now)) }
 {
     let lexicon = Lexicon {
         names,
@@ -75,10 +84,12 @@ fn completed(alloc: Global, base: Box<TypeName>, pieces: Vec<Piece>) -> Result<T
 fn type_at(alloc: Global, lexicon: &Lexicon, at: &mut Cursor) -> Result<TypeName, Stop>
     requires next { at.old.next ≤ length at.old.tokens.now }
     requires shallow { at.old.left ≤ 200 }
-    ensures read { IsTypeRead (meant lexicon.now) at.old.tokens.now at.old.next at.old.left at.new.next result }
+    ensures read { IsTypeRead (meant lexicon.now) at.old.tokens.now at.old.next at.old.left
+        at.new.next result }
     ensures tokens { at.new.tokens ≡ at.old.tokens }
     ensures left { at.new.left ≡ at.old.left }
-    ensures within { OnOk result ((at.old.next ≤ at.new.next) × (at.new.next ≤ length at.old.tokens.now)) }
+    ensures within { OnOk result
+        ((at.old.next ≤ at.new.next) × (at.new.next ≤ length at.old.tokens.now)) }
 {
     match type_within(alloc, lexicon, at.left, tokens_from(at.tokens, at.next)) {
         Ok(named) => {
@@ -99,13 +110,19 @@ pub fn type_name(
 ) -> Result<TypeName, Stop>
     requires next { at.old.next ≤ length at.old.tokens.now }
     requires left { at.old.left ≤ 200 }
-    ensures read { IsTypeRead (lexicon names.now.texts scope.now.types.items) at.old.tokens.now at.old.next at.old.left at.new.next result }
-    ensures longest { IsLongestRead (FitsType (lexicon names.now.texts scope.now.types.items) at.old.left) (λ d t. type_of d ≡ plain_type t) at.old.tokens.now at.old.next at.new.next result }
-    ensures reason { HasReason (lexicon names.now.texts scope.now.types.items) (IsType (lexicon names.now.texts scope.now.types.items)) at.old.tokens.now at.old.next result }
+    ensures read { IsTypeRead (lexicon names.now.texts scope.now.types.items) at.old.tokens.now
+        at.old.next at.old.left at.new.next result }
+    ensures longest { IsLongestRead
+        (FitsType (lexicon names.now.texts scope.now.types.items) at.old.left)
+        (λ d t. type_of d ≡ plain_type t) at.old.tokens.now at.old.next at.new.next result }
+    ensures reason { HasReason (lexicon names.now.texts scope.now.types.items)
+        (IsType (lexicon names.now.texts scope.now.types.items)) at.old.tokens.now at.old.next
+        result }
     ensures one { HasOneTree (IsType (lexicon names.now.texts scope.now.types.items)) }
     ensures tokens { at.new.tokens ≡ at.old.tokens }
     ensures left { at.new.left ≡ at.old.left }
-    ensures within { OnOk result ((at.old.next ≤ at.new.next) × (at.new.next ≤ length at.old.tokens.now)) }
+    ensures within { OnOk result
+        ((at.old.next ≤ at.new.next) × (at.new.next ≤ length at.old.tokens.now)) }
 {
     let lexicon = Lexicon {
         names,

@@ -2,7 +2,7 @@ use Rattle.std.proofs.Common.{◌∙◌, ap, sym}
 use Rattle.sb_parse.specs.Parser.{done}
 use Rattle.sb_tree.specs.Plain.{plain_decls}
 use Rattle.sb_declare.specs.Openings.{plain_declared}
-use Rattle.sb_decl.proofs.UnitLaws.{unit_read}
+use Rattle.sb_unit.proofs.laws.Units.{unit_read}
 use Rattle.sb_grammar.proofs.units.tree_of.Goals as goal
 
 pub new-requires : goal.new-requires

@@ -1,0 +1,4 @@
+pub mod laws
+pub mod telling
+pub mod widening
+pub mod deepening

@@ -1,0 +1,5 @@
+pub mod tokens
+pub mod laws
+pub mod steps
+pub mod widening
+pub mod deepening

@@ -1,0 +1,4 @@
+pub mod Barred
+pub mod Declarations
+pub mod Levels
+pub mod Lists

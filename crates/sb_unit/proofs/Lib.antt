@@ -1,0 +1,5 @@
+pub mod laws
+pub mod steps
+pub mod telling
+pub mod widening
+pub mod deepening
