@@ -5,5 +5,6 @@ pub mod Loops
 pub mod Statements
 pub mod Headers
 pub mod Params
+pub mod Pointers
 pub mod Files
 pub mod Whole

@@ -78,6 +78,13 @@ pointer_param room seen =
     mark sign.OutWrites (mark sign.OpenParenthesis (taken misplaced (named (size_name room seen)) >>= (λ size.
     mark sign.CloseParenthesis (mark sign.Int (mark sign.Star (taken misplaced (named (pointer_name seen size)) >>= (λ n. pure (with_pointer seen size n))))))))
 
+-- the same in two parts: the size in its annotation, and the name behind the `*`
+unfoldable pub size_part : ℕ → Seen → Reader Name
+size_part room seen = mark sign.OutWrites (mark sign.OpenParenthesis (taken misplaced (named (size_name room seen)) >>= (λ size. mark sign.CloseParenthesis (pure size))))
+
+unfoldable pub name_part : Seen → Name → Reader Name
+name_part seen size = mark sign.Int (mark sign.Star (taken misplaced (named (pointer_name seen size))))
+
 abbrev pub begins_param : Piece → Bool
 begins_param t = is_mark sign.Int t || (is_mark sign.Unsigned t || is_mark sign.OutWrites t)
 

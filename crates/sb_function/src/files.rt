@@ -93,7 +93,8 @@ fn function_more<'a>(
     pieces: &'a [Piece],
     functions: Vec<Function>,
 ) -> Result<Read<'a, Vec<Function>>, ReadFault>
-    ensures read { ReadsAs (λ v. trees v.items) (spec.function_more (trees functions.items) pieces.now) result }
+    ensures read { ReadsAs (λ v. trees v.items)
+        (spec.function_more (trees functions.items) pieces.now) result }
 {
     let next = function(alloc, &functions, pieces)?;
     let mut functions = functions;

@@ -23,7 +23,8 @@ fn take_number<'a>(
     pieces: &'a [Piece],
     room: usize,
 ) -> Result<Read<'a, Name>, ReadFault>
-    ensures read { Reads (taken misplaced (spec.named (spec.number_name room (seen_of header.now))) pieces.now) result }
+    ensures read { Reads (taken misplaced (spec.named (spec.number_name room (seen_of header.now)))
+        pieces.now) result }
 {
     advance(pieces, header.number_at(peek(pieces), room))
 }
@@ -33,7 +34,8 @@ fn take_size<'a>(
     pieces: &'a [Piece],
     room: usize,
 ) -> Result<Read<'a, Name>, ReadFault>
-    ensures read { Reads (taken misplaced (spec.named (spec.size_name room (seen_of header.now))) pieces.now) result }
+    ensures read { Reads (taken misplaced (spec.named (spec.size_name room (seen_of header.now)))
+        pieces.now) result }
 {
     advance(pieces, header.size_at(peek(pieces), room))
 }
@@ -43,7 +45,8 @@ fn take_pointer<'a>(
     pieces: &'a [Piece],
     size: Name,
 ) -> Result<Read<'a, Name>, ReadFault>
-    ensures read { Reads (taken misplaced (spec.named (spec.pointer_name (seen_of header.now) size)) pieces.now) result }
+    ensures read { Reads (taken misplaced (spec.named (spec.pointer_name (seen_of header.now) size))
+        pieces.now) result }
 {
     advance(pieces, header.pointer_at(peek(pieces), size))
 }
@@ -56,8 +59,10 @@ fn number_param<'a>(
     room: usize,
     kind: WrittenKind,
 ) -> Result<Read<'a, Header>, ReadFault>
-    ensures read { ReadsAs seen_of (spec.number_param room (seen_of header) kind pieces.now) result }
-    ensures longer { IfOk result (λ r. length r.value.written.items ≡ length header.written.items + 1) }
+    ensures read { ReadsAs seen_of (spec.number_param room (seen_of header) kind pieces.now)
+        result }
+    ensures longer { IfOk result
+        (λ r. length r.value.written.items ≡ length header.written.items + 1) }
 {
     let name = take_number(&header, pieces, room)?;
     Ok(Read {
@@ -66,23 +71,53 @@ fn number_param<'a>(
     })
 }
 
+/// `_Out_writes_(n)`
+#[tactic(auto, unfolding(crate::specs::Params::size_part))]
+fn size_part<'a>(
+    header: &Header,
+    pieces: &'a [Piece],
+    room: usize,
+) -> Result<Read<'a, Name>, ReadFault>
+    ensures read { Reads (spec.size_part room (seen_of header.now) pieces.now) result }
+{
+    let word = take_mark(pieces, Lexeme::OutWrites)?;
+    let parenthesis = take_mark(word.rest, Lexeme::OpenParenthesis)?;
+    let size = take_size(header, parenthesis.rest, room)?;
+    let close = take_mark(size.rest, Lexeme::CloseParenthesis)?;
+    Ok(Read {
+        value: size.value,
+        rest: close.rest,
+    })
+}
+
+/// `int *p`, behind the annotation.
+#[tactic(auto, unfolding(crate::specs::Params::name_part))]
+fn name_part<'a>(
+    header: &Header,
+    pieces: &'a [Piece],
+    size: Name,
+) -> Result<Read<'a, Name>, ReadFault>
+    ensures read { Reads (spec.name_part (seen_of header.now) size pieces.now) result }
+{
+    let int = take_mark(pieces, Lexeme::Int)?;
+    let star = take_mark(int.rest, Lexeme::Star)?;
+    let name = take_pointer(header, star.rest, size)?;
+    Ok(name)
+}
+
 /// `_Out_writes_(n) int *p`
-#[tactic(auto, unfolding(crate::specs::Params::pointer_param))]
+#[tactic(auto, using(crate::proofs::Steps::Pointers::parts_read, crate::proofs::Steps::Pointers::parts_stop_first, crate::proofs::Steps::Pointers::parts_stop_second))]
 fn pointer_param<'a>(
     header: Header,
     pieces: &'a [Piece],
     room: usize,
 ) -> Result<Read<'a, Header>, ReadFault>
     ensures read { ReadsAs seen_of (spec.pointer_param room (seen_of header) pieces.now) result }
-    ensures longer { IfOk result (λ r. length r.value.written.items ≡ length header.written.items + 1) }
+    ensures longer { IfOk result
+        (λ r. length r.value.written.items ≡ length header.written.items + 1) }
 {
-    let word = take_mark(pieces, Lexeme::OutWrites)?;
-    let parenthesis = take_mark(word.rest, Lexeme::OpenParenthesis)?;
-    let size = take_size(&header, parenthesis.rest, room)?;
-    let close = take_mark(size.rest, Lexeme::CloseParenthesis)?;
-    let int = take_mark(close.rest, Lexeme::Int)?;
-    let star = take_mark(int.rest, Lexeme::Star)?;
-    let name = take_pointer(&header, star.rest, size.value)?;
+    let size = size_part(&header, pieces, room)?;
+    let name = name_part(&header, size.rest, size.value)?;
     Ok(Read {
         value: header.with_pointer(size.value, name.value)?,
         rest: name.rest,
@@ -94,8 +129,10 @@ fn int_param<'a>(
     pieces: &'a [Piece],
     room: usize,
 ) -> Result<Read<'a, Header>, ReadFault>
-    ensures read { ReadsAs seen_of (mark sign.Int (spec.number_param room (seen_of header) kind.Int) pieces.now) result }
-    ensures longer { IfOk result (λ r. length r.value.written.items ≡ length header.written.items + 1) }
+    ensures read { ReadsAs seen_of
+        (mark sign.Int (spec.number_param room (seen_of header) kind.Int) pieces.now) result }
+    ensures longer { IfOk result
+        (λ r. length r.value.written.items ≡ length header.written.items + 1) }
 {
     let word = take_mark(pieces, Lexeme::Int)?;
     number_param(header, word.rest, room, WrittenKind::Int)
@@ -106,8 +143,11 @@ fn unsigned_param<'a>(
     pieces: &'a [Piece],
     room: usize,
 ) -> Result<Read<'a, Header>, ReadFault>
-    ensures read { ReadsAs seen_of (mark sign.Unsigned (mark sign.Int (spec.number_param room (seen_of header) kind.Unsigned)) pieces.now) result }
-    ensures longer { IfOk result (λ r. length r.value.written.items ≡ length header.written.items + 1) }
+    ensures read { ReadsAs seen_of
+        (mark sign.Unsigned (mark sign.Int (spec.number_param room (seen_of header) kind.Unsigned))
+        pieces.now) result }
+    ensures longer { IfOk result
+        (λ r. length r.value.written.items ≡ length header.written.items + 1) }
 {
     let word = take_mark(pieces, Lexeme::Unsigned)?;
     let int = take_mark(word.rest, Lexeme::Int)?;
@@ -121,7 +161,8 @@ fn param<'a>(
     room: usize,
 ) -> Result<Read<'a, Header>, ReadFault>
     ensures read { ReadsAs seen_of (spec.param room (seen_of header) pieces.now) result }
-    ensures longer { IfOk result (λ r. length r.value.written.items ≡ length header.written.items + 1) }
+    ensures longer { IfOk result
+        (λ r. length r.value.written.items ≡ length header.written.items + 1) }
 {
     if is_next(pieces, Lexeme::Int) {
         return int_param(header, pieces, room);
@@ -146,7 +187,8 @@ fn params_after<'a>(
     room: usize,
 ) -> Result<Read<'a, Vec<Written>>, ReadFault>
     requires small { room < 100 }
-    ensures read { ReadsAs (λ v. v.items) (spec.params_after room (seen_of header) pieces.now) result }
+    ensures read { ReadsAs (λ v. v.items) (spec.params_after room (seen_of header) pieces.now)
+        result }
     ensures few { IfOk result (λ r. length r.value.items ≤ length header.written.items + room) }
 {
     if is_next(pieces, Lexeme::Comma) {
@@ -165,7 +207,8 @@ fn params_after<'a>(
 }
 
 fn close<'a>(header: Header, pieces: &'a [Piece]) -> Result<Read<'a, Vec<Written>>, ReadFault>
-    ensures read { ReadsAs (λ v. v.items) (mark sign.CloseParenthesis (pure header.written.items) pieces.now) result }
+    ensures read { ReadsAs (λ v. v.items)
+        (mark sign.CloseParenthesis (pure header.written.items) pieces.now) result }
     ensures same { IfOk result (λ r. r.value.items ≡ header.written.items) }
 {
     let mark = take_mark(pieces, Lexeme::CloseParenthesis)?;
@@ -183,7 +226,8 @@ fn params_behind<'a>(
     room: usize,
 ) -> Result<Read<'a, Vec<Written>>, ReadFault>
     requires small { room < 100 }
-    ensures read { ReadsAs (λ v. v.items) (spec.params_behind room (seen_of header) pieces.now) result }
+    ensures read { ReadsAs (λ v. v.items) (spec.params_behind room (seen_of header) pieces.now)
+        result }
     ensures few { IfOk result (λ r. length r.value.items ≤ length header.written.items + 1 + room) }
 {
     let comma = take_mark(pieces, Lexeme::Comma)?;

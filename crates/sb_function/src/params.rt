@@ -97,7 +97,8 @@ impl Header {
     }
 
     pub(crate) fn number_at(&self, lexeme: Lexeme, room: usize) -> Option<Name>
-        ensures name { result ≡ spec.name_if (spec.number_name room (seen_of self.now)) (name_of lexeme) }
+        ensures name { result ≡ spec.name_if (spec.number_name room (seen_of self.now))
+            (name_of lexeme) }
     {
         let name = name_at(lexeme)?;
         if self.may_be_number(name, room) {
@@ -108,7 +109,8 @@ impl Header {
     }
 
     pub(crate) fn size_at(&self, lexeme: Lexeme, room: usize) -> Option<Name>
-        ensures name { result ≡ spec.name_if (spec.size_name room (seen_of self.now)) (name_of lexeme) }
+        ensures name { result ≡ spec.name_if (spec.size_name room (seen_of self.now))
+            (name_of lexeme) }
     {
         let name = name_at(lexeme)?;
         if self.may_be_size(name, room) {
@@ -119,7 +121,8 @@ impl Header {
     }
 
     pub(crate) fn pointer_at(&self, lexeme: Lexeme, size: Name) -> Option<Name>
-        ensures name { result ≡ spec.name_if (spec.pointer_name (seen_of self.now) size) (name_of lexeme) }
+        ensures name { result ≡ spec.name_if (spec.pointer_name (seen_of self.now) size)
+            (name_of lexeme) }
     {
         let name = name_at(lexeme)?;
         if self.may_be_pointer(size, name) {

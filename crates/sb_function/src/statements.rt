@@ -93,7 +93,8 @@ fn conditional<'a>(
 ) -> Result<Read<'a, Statement>, ReadFault>
     requires few { length params.now ≤ 32 }
     requires shallow { left < 200 }
-    ensures read { ReadsAs plain (spec.conditional params.now (spec.statement params.now left) pieces.now) result }
+    ensures read { ReadsAs plain
+        (spec.conditional params.now (spec.statement params.now left) pieces.now) result }
 {
     let word = take_mark(pieces, Lexeme::If)?;
     let parenthesis = take_mark(word.rest, Lexeme::OpenParenthesis)?;
@@ -120,7 +121,9 @@ fn statement_more<'a>(
 ) -> Result<Read<'a, Vec<Statement>>, ReadFault>
     requires few { length params.now ≤ 32 }
     requires shallow { left < 200 }
-    ensures read { ReadsAs (λ v. plains v.items) (spec.statement_more params.now (spec.statement params.now left) (plains list.items) pieces.now) result }
+    ensures read { ReadsAs (λ v. plains v.items)
+        (spec.statement_more params.now (spec.statement params.now left) (plains list.items)
+        pieces.now) result }
 {
     let next = statement(alloc, pieces, params, left)?;
     let mut list = list;
@@ -141,7 +144,8 @@ fn statements<'a>(
 ) -> Result<Read<'a, Vec<Statement>>, ReadFault>
     requires few { length params.now ≤ 32 }
     requires shallow { left < 200 }
-    ensures read { ReadsAs (λ v. spec.in_order (plains v.items)) (spec.statements params.now (spec.statement params.now left) pieces.now) result }
+    ensures read { ReadsAs (λ v. spec.in_order (plains v.items))
+        (spec.statements params.now (spec.statement params.now left) pieces.now) result }
 {
     let mut found = Read {
         value: Vec::new(alloc),
@@ -167,7 +171,8 @@ pub(crate) fn block_rest<'a>(
 ) -> Result<Read<'a, Vec<Statement>>, ReadFault>
     requires few { length params.now ≤ 32 }
     requires shallow { left < 200 }
-    ensures read { ReadsAs (λ v. spec.in_order (plains v.items)) (spec.block_rest params.now (spec.statement params.now left) pieces.now) result }
+    ensures read { ReadsAs (λ v. spec.in_order (plains v.items))
+        (spec.block_rest params.now (spec.statement params.now left) pieces.now) result }
 {
     let list = statements(alloc, pieces, params, left)?;
     let close = take_mark(list.rest, Lexeme::CloseBrace)?;
@@ -187,7 +192,8 @@ fn braced<'a>(
 ) -> Result<Read<'a, Statement>, ReadFault>
     requires few { length params.now ≤ 32 }
     requires shallow { left < 200 }
-    ensures read { ReadsAs plain (spec.braced params.now (spec.statement params.now left) pieces.now) result }
+    ensures read { ReadsAs plain
+        (spec.braced params.now (spec.statement params.now left) pieces.now) result }
 {
     let brace = take_mark(pieces, Lexeme::OpenBrace)?;
     let list = block_rest(alloc, brace.rest, params, left)?;

@@ -167,7 +167,8 @@ pub(crate) fn take_simple<'a>(
     params: &[Param],
 ) -> Result<Read<'a, Simple>, ReadFault>
     requires few { length params.now ≤ 32 }
-    ensures read { Reads (taken misplaced (λ t. spec.simple_at params.now t.lexeme) pieces.now) result }
+    ensures read { Reads (taken misplaced (λ t. spec.simple_at params.now t.lexeme) pieces.now)
+        result }
 {
     advance(pieces, simple_at(params, peek(pieces)))
 }
@@ -179,7 +180,8 @@ pub(crate) fn take_right<'a>(
     left: Simple,
 ) -> Result<Read<'a, Simple>, ReadFault>
     requires few { length params.now ≤ 32 }
-    ensures read { Reads (taken misplaced (λ t. spec.right_at params.now left t.lexeme) pieces.now) result }
+    ensures read { Reads (taken misplaced (λ t. spec.right_at params.now left t.lexeme) pieces.now)
+        result }
 {
     advance(pieces, right_at(params, left, peek(pieces)))
 }
@@ -190,7 +192,8 @@ pub(crate) fn take_value<'a>(
     params: &[Param],
 ) -> Result<Read<'a, Simple>, ReadFault>
     requires few { length params.now ≤ 32 }
-    ensures read { Reads (taken misplaced (λ t. spec.value_at params.now t.lexeme) pieces.now) result }
+    ensures read { Reads (taken misplaced (λ t. spec.value_at params.now t.lexeme) pieces.now)
+        result }
 {
     advance(pieces, value_at(params, peek(pieces)))
 }
@@ -201,7 +204,8 @@ pub(crate) fn take_array<'a>(
     params: &[Param],
 ) -> Result<Read<'a, u32>, ReadFault>
     requires few { length params.now ≤ 32 }
-    ensures read { Reads (taken misplaced (λ t. spec.array_at params.now t.lexeme) pieces.now) result }
+    ensures read { Reads (taken misplaced (λ t. spec.array_at params.now t.lexeme) pieces.now)
+        result }
 {
     advance(pieces, array_at(params, peek(pieces)))
 }

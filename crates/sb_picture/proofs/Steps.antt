@@ -1,4 +1,5 @@
 pub mod Closing
 pub mod Absorbing
 pub mod Placing
+pub mod Exits
 pub mod Assuming

@@ -77,3 +77,8 @@ given p c = record { values = p.values; facts = with_fact p.facts c; labels = p.
 abbrev pub assume : List (Option Linear) → Picture → Asks (List Picture)
 assume [] p = Done (p ∷ [])
 assume (c ∷ cs) p = after_it (ask p.facts (negation c)) (λ x. if is_proved x.1 then Done [] else assume cs (given p c))
+
+-- a picture, if its conditions hold
+abbrev pub where_held : Picture → Bool → List Picture
+where_held p true = p ∷ []
+where_held p false = []

@@ -1,9 +1,11 @@
 //! How a question is put: the facts that are connected with the goal, and then the goal.
-ghost use Rattle.std.specs.Prelude.{◌≡◌, None, length, nat_eq, IfOk, OnOk};
+ghost use Rattle.std.specs.Prelude.{◌≡◌, None, length, nat_eq, IfOk, IfErr, OnOk};
+ghost use Rattle.sb_term.specs.declared.fault.DecideFault.TheVariants.{Memory};
 ghost use Rattle.std.specs.List.{filter, list_any};
 ghost use Rattle.sb_term.specs.Asks.{run, EndsAs};
-ghost use Rattle.sb_picture.specs.Asking.{ask_term, with_met, with_all_met, names_one, touches, spread, closed, connected, query_of, decided, ask, is_proved, negation, given, assume};
-ghost use Rattle.sb_picture.specs.Ends.{EndsWith};
+ghost use Rattle.sb_picture.specs.Pictures.{with_fact};
+ghost use Rattle.sb_picture.specs.Asking.{ask_term, with_met, with_all_met, names_one, touches, spread, closed, connected, query_of, decided, ask, is_proved, negation, given, assume, where_held};
+ghost use Rattle.sb_picture.specs.Ends.{EndsWith, EndsProved};
 
 use crate::copied::Copied;
 use crate::facts::add_fact;
@@ -153,7 +155,8 @@ fn ask_term<V: Decide>(
     judge: &mut V,
 ) -> Result<Asked, DecideFault>
     requires { V.stop judge.old ≡ None }
-    ensures rule { EndsWith result (λ x. (x.query, x.answer)) judge.new (run V.stop V.gives V.after (ask_term facts.now goal) judge.old) }
+    ensures rule { EndsWith result (λ x. (x.query, x.answer)) judge.new
+        (run V.stop V.gives V.after (ask_term facts.now goal) judge.old) }
     ensures stop { OnOk result (V.stop judge.new ≡ None) }
 {
     if has_symbol(&goal) {
@@ -178,7 +181,8 @@ pub fn ask<V: Decide>(
     judge: &mut V,
 ) -> Result<Asked, DecideFault>
     requires { V.stop judge.old ≡ None }
-    ensures rule { EndsWith result (λ x. (x.query, x.answer)) judge.new (run V.stop V.gives V.after (ask facts.now goal) judge.old) }
+    ensures rule { EndsWith result (λ x. (x.query, x.answer)) judge.new
+        (run V.stop V.gives V.after (ask facts.now goal) judge.old) }
     ensures stop { OnOk result (V.stop judge.new ≡ None) }
 {
     match goal {
@@ -207,8 +211,76 @@ fn negated_condition(alloc: Global, condition: &Option<Term>) -> Result<Option<T
     }
 }
 
-/// The pictures in which conditions hold: one, or none where the negation of a condition is proved.
+fn is_proof(asked: Asked) -> bool
+    ensures { result ≡ is_proved asked.answer }
+{
+    asked.is_proved()
+}
+
+/// Whether facts prove the negation of a condition.
+fn excludes<V: Decide>(
+    alloc: Global,
+    facts: &[Row],
+    condition: &Option<Term>,
+    judge: &mut V,
+) -> Result<bool, DecideFault>
+    requires { V.stop judge.old ≡ None }
+    ensures rule { EndsProved result judge.new
+        (run V.stop V.gives V.after (ask facts.now (negation condition.now)) judge.old) }
+    ensures stop { OnOk result (V.stop judge.new ≡ None) }
+{
+    let negated = negated_condition(alloc, condition)?;
+    let asked = ask(alloc, facts, negated, judge)?;
+    Ok(is_proof(asked))
+}
+
+fn add_condition(
+    alloc: Global,
+    condition: &Option<Term>,
+    facts: &mut Items<Row>,
+) -> Result<(), AllocError>
+    ensures { OnOk result (facts.new ≡ with_fact facts.old condition.now) }
+{
+    let fact = condition.copied(alloc)?;
+    add_fact(facts, fact)?;
+    Ok(())
+}
+
+/// Assumes conditions in a picture, and tells whether it proves the negation of none.
 #[tactic(auto, using(sb_term::specs::AskLaws::runs))]
+fn assume_each<V: Decide>(
+    alloc: Global,
+    conditions: &[Option<Term>],
+    picture: &mut Picture,
+    judge: &mut V,
+) -> Result<bool, DecideFault>
+    requires { V.stop judge.old ≡ None }
+    ensures rule { EndsWith result (where_held picture.new) judge.new
+        (run V.stop V.gives V.after (assume conditions.now picture.old) judge.old) }
+    ensures stop { OnOk result (V.stop judge.new ≡ None) }
+{
+    for condition in conditions {
+        let excluded = excludes(alloc, picture.facts.as_slice(), condition, judge)?;
+        if excluded {
+            return Ok(false);
+        }
+        add_condition(alloc, condition, &mut picture.facts)?;
+    }
+    Ok(true)
+}
+
+fn where_held(alloc: Global, picture: Picture, holds: bool) -> Result<Items<Picture>, DecideFault>
+    ensures pictures { IfOk result (λ pictures. pictures ≡ where_held picture holds) }
+    ensures err { IfErr result (λ fault. fault ≡ Memory) }
+{
+    let mut pictures = Items::new(alloc);
+    if holds {
+        pictures.push(picture)?;
+    }
+    Ok(pictures)
+}
+
+/// The pictures in which conditions hold: one, or none where the negation of a condition is proved.
 pub fn assume<V: Decide>(
     alloc: Global,
     conditions: &[Option<Term>],
@@ -216,20 +288,11 @@ pub fn assume<V: Decide>(
     judge: &mut V,
 ) -> Result<Items<Picture>, DecideFault>
     requires { V.stop judge.old ≡ None }
-    ensures rule { EndsAs result judge.new (run V.stop V.gives V.after (assume conditions.now from) judge.old) }
+    ensures rule { EndsAs result judge.new
+        (run V.stop V.gives V.after (assume conditions.now from) judge.old) }
     ensures stop { OnOk result (V.stop judge.new ≡ None) }
 {
     let mut picture = from;
-    let mut pictures = Items::new(alloc);
-    for condition in conditions {
-        let negated = negated_condition(alloc, condition)?;
-        let asked = ask(alloc, picture.facts.as_slice(), negated, judge)?;
-        if asked.is_proved() {
-            return Ok(pictures);
-        }
-        let fact = condition.copied(alloc)?;
-        add_fact(&mut picture.facts, fact)?;
-    }
-    pictures.push(picture)?;
-    Ok(pictures)
+    let holds = assume_each(alloc, conditions, &mut picture, judge)?;
+    where_held(alloc, picture, holds)
 }

@@ -1,10 +1,11 @@
 //! How facts are added, and the numbers that a picture knows.
-ghost use Rattle.std.specs.Prelude.{◌≡◌, IfOk, OnOk};
+ghost use Rattle.std.specs.Prelude.{◌≡◌, pos, Some, IfOk, OnOk};
 ghost use Rattle.std.specs.List.{list_any};
-ghost use Rattle.sb_picture.specs.Pictures.{is_fact, with_term, with_fact, number_at};
+ghost use Rattle.sb_term.specs.Linear.{formed};
+ghost use Rattle.sb_picture.specs.Pictures.{minus, is_fact, with_term, with_fact, number_at};
 
 use crate::picture::Value;
-use crate::terms::{has_symbol, number, same_term};
+use crate::terms::{difference, has_symbol, number, same_term};
 use sb_function::Simple;
 use sb_term::{Row, Term};
 use sqlite_items::{Items, at};
@@ -32,6 +33,34 @@ pub fn add_fact(facts: &mut Items<Row>, fact: Option<Term>) -> Result<(), AllocE
     if let Some(term) = fact {
         add_term(facts, term)?;
     }
+    Ok(())
+}
+
+/// The fact that a term is at least 0.
+pub fn add_at_least_zero(
+    alloc: Global,
+    term: &Term,
+    facts: &mut Items<Row>,
+) -> Result<(), AllocError>
+    ensures { OnOk result (facts.new ≡ with_fact facts.old (Some term.now)) }
+{
+    let copy = term.copy(alloc)?;
+    add_term(facts, copy)?;
+    Ok(())
+}
+
+/// The fact that a term is at least another.
+pub fn add_at_least(
+    alloc: Global,
+    term: &Term,
+    least: &Term,
+    facts: &mut Items<Row>,
+) -> Result<(), AllocError>
+    ensures { OnOk result
+        (facts.new ≡ with_fact facts.old (formed (minus term.now least.now (pos 0)))) }
+{
+    let difference = difference(alloc, term, least, 0)?;
+    add_fact(facts, difference)?;
     Ok(())
 }
 

@@ -14,7 +14,7 @@ mod tidying;
 
 pub use asking::{Asked, ask, assume};
 pub use copied::Copied;
-pub use facts::{add_fact, number_at};
+pub use facts::{add_at_least, add_at_least_zero, add_fact, number_at};
 pub use picture::{Cell, Island, Label, Part, Picture, Region, Value};
 pub use regions::{add_island, greater_end, with_prefix};
 pub use tidying::all_tidied;

@@ -81,7 +81,8 @@ fn combination(
 ) -> Result<Option<Term>, AllocError>
     requires a { a < 2 ^ 40 }
     requires b { b < 2 ^ 40 }
-    ensures { IfOk result (λ t. t ≡ formed (combined (pos a) first.now (pos b) second.now (pos 0))) }
+    ensures { IfOk result
+        (λ t. t ≡ formed (combined (pos a) first.now (pos b) second.now (pos 0))) }
 {
     match first.combine(alloc, a, second, b) {
         Ok(term) => Ok(Some(term)),
@@ -176,7 +177,8 @@ fn place_below(
     facts: &[Row],
     rows: &mut Items<Row>,
 ) -> Result<(), AllocError>
-    ensures { OnOk result (rows.new ≡ placed_below symbol above.now (filter (is_below symbol) facts.now) rows.old) }
+    ensures { OnOk result
+        (rows.new ≡ placed_below symbol above.now (filter (is_below symbol) facts.now) rows.old) }
 {
     for below in facts {
         if is_below(symbol, below) {
@@ -193,7 +195,9 @@ fn place_all(
     facts: &[Row],
     rows: &mut Items<Row>,
 ) -> Result<(), AllocError>
-    ensures { OnOk result (rows.new ≡ placed_all symbol (filter (is_above symbol) facts.now) (filter (is_below symbol) facts.now) rows.old) }
+    ensures { OnOk result
+        (rows.new ≡ placed_all symbol (filter (is_above symbol) facts.now)
+        (filter (is_below symbol) facts.now) rows.old) }
 {
     for above in facts {
         if is_above(symbol, above) {

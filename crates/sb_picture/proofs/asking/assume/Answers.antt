@@ -1,12 +1,16 @@
-use Rattle.std.proofs.Common.{rules, ◌∙◌, ap, sym}
-use Rattle.sb_picture.specs.Pictures.{with_fact}
-use Rattle.sb_picture.proofs.Steps.Assuming.{assume-turn}
+use Rattle.std.proofs.lemmas.Result.{err_from_is_err_and}
+use Rattle.sb_picture.specs.Asking.{where_held}
+use Rattle.sb_picture.proofs.Steps.Assuming.{held-ends, held-stops, on_ok}
 use Rattle.sb_picture.proofs.asking.assume.Goals as goal
 
-pub loop-condition-preserved : goal.loop-condition-preserved
-loop-condition-preserved g c =
-    let turn = assume-turn g.V.Decide.stop g.V.Decide.gives g.V.Decide.after c.args.conditions.now c.loop-condition.condition-index c.condition-item.result c.in_ok-negated.negated
-    c.loop-condition.picture c.add_fact.new.facts c.loop-condition.judge c.ask.new.judge (c.in_ok-asked.asked.query, c.in_ok-asked.asked.answer)
-    c.loop-condition-test.true c.condition-item.is c.in_ok-negated.ensures (search rules) (sym c.is_proved.ensures ∙ c.if-is_proved.false)
-    (c.in_ok-add_fact.ensures ∙ ap (λ f. with_fact c.loop-condition.picture.facts f) c.in_ok-fact.ensures) in
-    (c.in_ok-asked.ensures.stop, c.loop-condition.invariant.1, turn ∙ c.loop-condition.invariant.2)
+pub returns-clause-rule : goal.returns-clause-rule
+returns-clause-rule g c =
+    held-ends c.assume_each.new.picture c.in_ok-holds.holds c.assume_each.new.judge _ c.where_held.result c.where_held.ensures.pictures c.where_held.ensures.err c.in_ok-holds.ensures.rule
+
+pub returns-clause-stop : goal.returns-clause-stop
+returns-clause-stop g c = on_ok c.where_held.result c.in_ok-holds.ensures.stop
+
+pub returns-in_err-holds-clause-rule : goal.returns-in_err-holds-clause-rule
+returns-in_err-holds-clause-rule g c =
+    let p = err_from_is_err_and c.from_residual.result c.from_residual.ensures.1 in
+    held-stops (where_held c.assume_each.new.picture) c.in_err-holds.field-0.0 p.0 c.assume_each.new.judge _ c.from_residual.result c.in_err-holds.ensures.rule p.1 p.2
