@@ -1,5 +1,4 @@
 pub mod Sequel
-pub mod Stored
 pub mod Stores
 pub mod Split
 pub mod Entered

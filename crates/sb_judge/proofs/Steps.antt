@@ -1,5 +1,6 @@
 pub mod Turns
 pub mod Exits
 pub mod Walking
-pub mod Targets
 pub mod Judged
+pub mod Entering
+pub mod Splitting

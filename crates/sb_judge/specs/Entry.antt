@@ -1,6 +1,7 @@
 -- the pictures at the entry of a function
-use Rattle.std.specs.Prelude.{◌+◌, List, [], ◌∷◌, ◌++◌, length, slice_get, pos, Option, Some, None}
+use Rattle.std.specs.Prelude.{ℕ, ◌+◌, List, [], ◌∷◌, ◌++◌, length, slice_get, pos, Option, Some, None}
 use Rattle.sb_base.specs.declared.interning.Name.{Name}
+use Rattle.sb_term.specs.declared.row.Row.{Row}
 use Rattle.sb_term.specs.Linear.{Linear, constant, symbol, scaled, formed}
 use Rattle.sb_term.specs.Asks.{Asks}
 use Rattle.sb_function.specs.declared.syntax.ParamKind.{ParamKind}
@@ -10,6 +11,7 @@ use Rattle.sb_picture.specs.declared.picture.Value.{Value}
 use Rattle.sb_picture.specs.declared.picture.Value.TheVariants.{Number, Pointer, Unknown}
 use Rattle.sb_picture.specs.declared.picture.Region.{Region}
 use Rattle.sb_picture.specs.declared.picture.Part.TheVariants as part
+use Rattle.sb_picture.specs.declared.picture.Label.{Label}
 use Rattle.sb_picture.specs.declared.picture.Picture.{Picture}
 use Rattle.sb_picture.specs.Contract.{least, greatest}
 use Rattle.sb_picture.specs.Pictures.{minus, with_fact, next, number_in}
@@ -30,6 +32,10 @@ with_number name kind p = record {
   cells = p.cells;
 }
 
+-- the same by what is added: a term in the range of a type
+abbrev pub with_range : ParamKind → Linear → List Row → List Row
+with_range kind t facts = with_fact (with_fact facts (formed (minus t (constant (least kind)) (pos 0)))) (formed (minus (constant (greatest kind)) t (pos 0)))
+
 -- a pointer parameter is the start of a fresh region
 abbrev pub with_pointer : Name → Picture → Picture
 with_pointer name p = record {
@@ -43,6 +49,19 @@ with_pointer name p = record {
   regions = p.regions ++ record { name = name; presence = symbol (next p); extent = symbol (next p + 1); written = symbol (next p + 2); islands = [] } ∷ [];
   cells = p.cells;
 }
+
+-- the same by what is added: the region and the labels of its symbols, presence that is 0 or 1, and a prefix within the extent
+abbrev pub fresh_region : Name → ℕ → Region
+fresh_region name n = record { name = name; presence = symbol n; extent = symbol (n + 1); written = symbol (n + 2); islands = [] }
+
+abbrev pub region_labels : Name → List Label
+region_labels name = record { name = name; part = part.Present } ∷ record { name = name; part = part.Extent } ∷ record { name = name; part = part.Written } ∷ []
+
+abbrev pub with_presence : Linear → List Row → List Row
+with_presence t facts = with_fact (with_fact facts (Some t)) (formed (minus (constant (pos 1)) t (pos 0)))
+
+abbrev pub with_extent : Linear → Linear → List Row → List Row
+with_extent extent written facts = with_fact (with_fact facts (Some written)) (formed (minus extent written (pos 0)))
 
 abbrev pub with_param_of : Name → ParamKind → Picture → Picture
 with_param_of name Int p = with_number name Int p

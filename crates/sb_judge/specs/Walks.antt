@@ -7,9 +7,9 @@ use Rattle.sb_term.specs.Asks.{Asks, Done, Ask, after_it}
 use Rattle.sb_function.specs.declared.syntax.Simple.{Simple}
 use Rattle.sb_function.specs.declared.syntax.Param.{Param}
 use Rattle.sb_picture.specs.declared.picture.Picture.{Picture}
-use Rattle.sb_judge.specs.declared.warning.Warning.{Warning}
+use Rattle.sb_store.specs.declared.warning.Warning.{Warning}
 use Rattle.sb_function.specs.Syntax.{Plain, Skip, Then, Store, Choose, FunctionTree}
-use Rattle.sb_judge.specs.Stores.{store_rule}
+use Rattle.sb_store.specs.Stores.{store_rule}
 use Rattle.sb_judge.specs.Splits.{split_all}
 use Rattle.sb_picture.specs.Tidying.{tidied}
 use Rattle.sb_judge.specs.Entry.{enter}

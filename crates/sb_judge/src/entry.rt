@@ -1,15 +1,16 @@
 //! The pictures at the entry of a function.
-ghost use Rattle.std.specs.Prelude.{◌≡◌, ◌+◌, pos, Some, None, [], ◌∷◌, ◌++◌, length, slice_get, IfOk, OnOk};
-ghost use Rattle.sb_term.specs.Linear.{constant, symbol, formed};
+ghost use Rattle.std.specs.Prelude.{◌≡◌, ◌+◌, pos, None, [], ◌∷◌, ◌++◌, length, slice_get, IfOk, OnOk};
+ghost use Rattle.sb_term.specs.Linear.{constant, symbol};
 ghost use Rattle.sb_term.specs.Asks.{run, EndsAs};
 ghost use Rattle.sb_picture.specs.Contract.{least, greatest};
-ghost use Rattle.sb_picture.specs.Pictures.{minus, with_fact, number_in};
-ghost use Rattle.sb_judge.specs.Entry.{empty, with_number, with_pointer, with_param_of, with_params, presence_in, presence_of, presences, bytes_of, extent_less, extent_in, extent_of, extents, clauses, entered, enter};
+ghost use Rattle.sb_picture.specs.Pictures.{number_in};
+ghost use Rattle.sb_picture.specs.declared.picture.Value.TheVariants.{Pointer};
+ghost use Rattle.sb_judge.specs.Entry.{empty, with_range, with_number, fresh_region, region_labels, with_presence, with_extent, with_pointer, with_param_of, with_params, presence_in, presence_of, presences, bytes_of, extent_less, extent_in, extent_of, extents, clauses, entered, enter};
 
 use sb_base::Name;
 use sb_function::{Param, ParamKind};
 use sb_picture::terms::{bytes, difference, number};
-use sb_picture::{Label, Part, Picture, Region, Value, add_fact, assume};
+use sb_picture::{Label, Part, Picture, Region, Value, add_at_least, add_at_least_zero, assume};
 use sb_term::{Decide, DecideFault, Row, Sym, Term};
 use sqlite_items::{Items, at};
 use std::alloc::{AllocError, Global};
@@ -34,7 +35,8 @@ fn fresh(
     part: Part,
 ) -> Result<Term, AllocError>
     ensures term { IfOk result (λ t. t ≡ symbol (length labels.old)) }
-    ensures labels { OnOk result (labels.new ≡ labels.old ++ record { name = name; part = part } ∷ []) }
+    ensures labels { OnOk result
+        (labels.new ≡ labels.old ++ record { name = name; part = part } ∷ []) }
 {
     let term = Term::symbol(alloc, Sym(labels.len() as u64));
     labels.push(Label { name, part })?;
@@ -61,6 +63,22 @@ fn greatest(alloc: Global, kind: ParamKind) -> Term
     }
 }
 
+/// A term lies in the range of a type.
+fn add_range(
+    alloc: Global,
+    kind: ParamKind,
+    term: &Term,
+    facts: &mut Items<Row>,
+) -> Result<(), AllocError>
+    ensures { OnOk result (facts.new ≡ with_range kind term.now facts.old) }
+{
+    let least = least(alloc, kind);
+    let greatest = greatest(alloc, kind);
+    add_at_least(alloc, term, &least, facts)?;
+    add_at_least(alloc, &greatest, term, facts)?;
+    Ok(())
+}
+
 /// A number parameter: a fresh symbol in the range of its type.
 fn add_number(
     alloc: Global,
@@ -71,33 +89,62 @@ fn add_number(
     ensures { OnOk result (picture.new ≡ with_number name kind picture.old) }
 {
     let symbol = fresh(alloc, &mut picture.labels, name, Part::Number)?;
-    let least = least(alloc, kind);
-    let above = difference(alloc, &symbol, &least, 0)?;
-    add_fact(&mut picture.facts, above)?;
-    let greatest = greatest(alloc, kind);
-    let below = difference(alloc, &greatest, &symbol, 0)?;
-    add_fact(&mut picture.facts, below)?;
+    add_range(alloc, kind, &symbol, &mut picture.facts)?;
     picture.values.push(Value::Number(symbol))?;
     Ok(())
 }
 
-/// What is known of each region: presence is 0 or 1, and the prefix lies within the extent.
+fn fresh_region(alloc: Global, labels: &mut Items<Label>, name: Name) -> Result<Region, AllocError>
+    ensures region { IfOk result (λ region. region ≡ fresh_region name (length labels.old)) }
+    ensures labels { OnOk result (labels.new ≡ labels.old ++ region_labels name) }
+{
+    let presence = fresh(alloc, labels, name, Part::Present)?;
+    let extent = fresh(alloc, labels, name, Part::Extent)?;
+    let written = fresh(alloc, labels, name, Part::Written)?;
+    Ok(Region {
+        name,
+        presence,
+        extent,
+        written,
+        islands: Items::new(alloc),
+    })
+}
+
+/// Presence is 0 or 1.
+fn add_presence_facts(
+    alloc: Global,
+    presence: &Term,
+    facts: &mut Items<Row>,
+) -> Result<(), AllocError>
+    ensures { OnOk result (facts.new ≡ with_presence presence.now facts.old) }
+{
+    let one = number(alloc, 1);
+    add_at_least_zero(alloc, presence, facts)?;
+    add_at_least(alloc, &one, presence, facts)?;
+    Ok(())
+}
+
+/// What is known of each region: its presence, and that the prefix lies within the extent.
 fn add_region_facts(
     alloc: Global,
-    facts: &mut Items<Row>,
     region: &Region,
+    facts: &mut Items<Row>,
 ) -> Result<(), AllocError>
-    ensures { OnOk result (facts.new ≡ with_fact (with_fact (with_fact (with_fact facts.old (Some region.now.presence)) (formed (minus (constant (pos 1)) region.now.presence (pos 0)))) (Some region.now.written)) (formed (minus region.now.extent region.now.written (pos 0)))) }
+    ensures { OnOk result
+        (facts.new ≡ with_extent region.now.extent region.now.written
+        (with_presence region.now.presence facts.old)) }
 {
-    let presence = region.presence.copy(alloc)?;
-    add_fact(facts, Some(presence))?;
-    let one = number(alloc, 1);
-    let at_most_one = difference(alloc, &one, &region.presence, 0)?;
-    add_fact(facts, at_most_one)?;
-    let written = region.written.copy(alloc)?;
-    add_fact(facts, Some(written))?;
-    let within = difference(alloc, &region.extent, &region.written, 0)?;
-    add_fact(facts, within)?;
+    add_presence_facts(alloc, &region.presence, facts)?;
+    add_at_least_zero(alloc, &region.written, facts)?;
+    add_at_least(alloc, &region.extent, &region.written, facts)?;
+    Ok(())
+}
+
+fn add_start(alloc: Global, region: usize, values: &mut Items<Value>) -> Result<(), AllocError>
+    ensures { OnOk result (values.new ≡ values.old ++ Pointer region (constant (pos 0)) ∷ []) }
+{
+    let offset = number(alloc, 0);
+    values.push(Value::Pointer { region, offset })?;
     Ok(())
 }
 
@@ -105,22 +152,9 @@ fn add_region_facts(
 fn add_pointer(alloc: Global, name: Name, picture: &mut Picture) -> Result<(), AllocError>
     ensures { OnOk result (picture.new ≡ with_pointer name picture.old) }
 {
-    let presence = fresh(alloc, &mut picture.labels, name, Part::Present)?;
-    let extent = fresh(alloc, &mut picture.labels, name, Part::Extent)?;
-    let written = fresh(alloc, &mut picture.labels, name, Part::Written)?;
-    let region = Region {
-        name,
-        presence,
-        extent,
-        written,
-        islands: Items::new(alloc),
-    };
-    add_region_facts(alloc, &mut picture.facts, &region)?;
-    let offset = number(alloc, 0);
-    picture.values.push(Value::Pointer {
-        region: picture.regions.len(),
-        offset,
-    })?;
+    let region = fresh_region(alloc, &mut picture.labels, name)?;
+    add_region_facts(alloc, &region, &mut picture.facts)?;
+    add_start(alloc, picture.regions.len(), &mut picture.values)?;
     picture.regions.push(region)?;
     Ok(())
 }
@@ -228,7 +262,8 @@ fn add_extent(
     value: &Value,
     conditions: &mut Items<Option<Term>>,
 ) -> Result<(), AllocError>
-    ensures { OnOk result (conditions.new ≡ conditions.old ++ extent_of picture.now kind value.now) }
+    ensures { OnOk result
+        (conditions.new ≡ conditions.old ++ extent_of picture.now kind value.now) }
 {
     match (kind, value) {
         (ParamKind::OutWrites { size }, Value::Pointer { region, offset: _ }) => {
@@ -249,7 +284,8 @@ fn add_extents(
     values: &[Value],
     conditions: &mut Items<Option<Term>>,
 ) -> Result<(), AllocError>
-    ensures { OnOk result (conditions.new ≡ conditions.old ++ extents picture.now params.now values.now) }
+    ensures { OnOk result
+        (conditions.new ≡ conditions.old ++ extents picture.now params.now values.now) }
 {
     match params {
         [] => Ok(()),
@@ -298,11 +334,11 @@ pub fn enter<V: Decide>(
     judge: &mut V,
 ) -> Result<Items<Picture>, DecideFault>
     requires { V.stop judge.old ≡ None }
-    ensures rule { EndsAs result judge.new (run V.stop V.gives V.after (enter params.now) judge.old) }
+    ensures rule { EndsAs result judge.new
+        (run V.stop V.gives V.after (enter params.now) judge.old) }
     ensures stop { OnOk result (V.stop judge.new ≡ None) }
 {
     let picture = entry_picture(alloc, params)?;
     let conditions = clauses(alloc, params, &picture)?;
-    let pictures = assume(alloc, conditions.as_slice(), picture, judge)?;
-    Ok(pictures)
+    assume(alloc, conditions.as_slice(), picture, judge)
 }

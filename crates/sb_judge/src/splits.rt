@@ -104,7 +104,8 @@ fn in_ways<V: Decide>(
     judge: &mut V,
 ) -> Result<Items<Picture>, DecideFault>
     requires { V.stop judge.old ≡ None }
-    ensures rule { EndsAs result judge.new (run V.stop V.gives V.after (in_ways ways.now picture.now) judge.old) }
+    ensures rule { EndsAs result judge.new
+        (run V.stop V.gives V.after (in_ways ways.now picture.now) judge.old) }
     ensures stop { OnOk result (V.stop judge.new ≡ None) }
 {
     let mut pictures = Items::new(alloc);
@@ -118,7 +119,8 @@ fn in_ways<V: Decide>(
 
 /// Both sides where nothing is known of the condition.
 fn unknown(alloc: Global, picture: &Picture) -> Result<Sides, AllocError>
-    ensures { IfOk result (λ s. sides s.trues s.falses ≡ sides (picture.now ∷ []) (picture.now ∷ [])) }
+    ensures { IfOk result
+        (λ s. sides s.trues s.falses ≡ sides (picture.now ∷ []) (picture.now ∷ [])) }
 {
     let true_one = picture.copied(alloc)?;
     let false_one = picture.copied(alloc)?;
@@ -127,7 +129,24 @@ fn unknown(alloc: Global, picture: &Picture) -> Result<Sides, AllocError>
     Ok(Sides { trues, falses })
 }
 
-#[tactic(auto, using(sb_term::specs::AskLaws::runs))]
+/// The pictures in which a comparison is true.
+fn where_true<V: Decide>(
+    alloc: Global,
+    op: Comparison,
+    left: &Term,
+    right: &Term,
+    picture: &Picture,
+    judge: &mut V,
+) -> Result<Items<Picture>, DecideFault>
+    requires { V.stop judge.old ≡ None }
+    ensures rule { EndsAs result judge.new
+        (run V.stop V.gives V.after (in_ways (ways op left.now right.now) picture.now) judge.old) }
+    ensures stop { OnOk result (V.stop judge.new ≡ None) }
+{
+    let ways = ways(alloc, op, left, right)?;
+    in_ways(alloc, ways.as_slice(), picture, judge)
+}
+
 fn split_known<V: Decide>(
     alloc: Global,
     op: Comparison,
@@ -137,14 +156,37 @@ fn split_known<V: Decide>(
     judge: &mut V,
 ) -> Result<Sides, DecideFault>
     requires { V.stop judge.old ≡ None }
-    ensures rule { EndsWith result (λ s. sides s.trues s.falses) judge.new (run V.stop V.gives V.after (split_by op (Some left.now) (Some right.now) picture.now) judge.old) }
+    ensures rule { EndsWith result (λ s. sides s.trues s.falses) judge.new
+        (run V.stop V.gives V.after (split_by op (Some left.now) (Some right.now) picture.now)
+        judge.old) }
     ensures stop { OnOk result (V.stop judge.new ≡ None) }
 {
-    let when = ways(alloc, op, left, right)?;
-    let trues = in_ways(alloc, when.as_slice(), picture, judge)?;
-    let unless = ways(alloc, op.opposite(), left, right)?;
-    let falses = in_ways(alloc, unless.as_slice(), picture, judge)?;
+    let trues = where_true(alloc, op, left, right, picture, judge)?;
+    let falses = where_true(alloc, op.opposite(), left, right, picture, judge)?;
     Ok(Sides { trues, falses })
+}
+
+/// The sides of a comparison of two numbers in a picture.
+fn split_by<V: Decide>(
+    alloc: Global,
+    op: Comparison,
+    left: &Option<Term>,
+    right: &Option<Term>,
+    picture: &Picture,
+    judge: &mut V,
+) -> Result<Sides, DecideFault>
+    requires { V.stop judge.old ≡ None }
+    ensures rule { EndsWith result (λ s. sides s.trues s.falses) judge.new
+        (run V.stop V.gives V.after (split_by op left.now right.now picture.now) judge.old) }
+    ensures stop { OnOk result (V.stop judge.new ≡ None) }
+{
+    match (left, right) {
+        (Some(left), Some(right)) => split_known(alloc, op, left, right, picture, judge),
+        (None, _) | (Some(_), None) => {
+            let sides = unknown(alloc, picture)?;
+            Ok(sides)
+        }
+    }
 }
 
 /// The sides of a condition in a picture.
@@ -157,18 +199,13 @@ fn split<V: Decide>(
     judge: &mut V,
 ) -> Result<Sides, DecideFault>
     requires { V.stop judge.old ≡ None }
-    ensures rule { EndsWith result (λ s. sides s.trues s.falses) judge.new (run V.stop V.gives V.after (split left op right picture.now) judge.old) }
+    ensures rule { EndsWith result (λ s. sides s.trues s.falses) judge.new
+        (run V.stop V.gives V.after (split left op right picture.now) judge.old) }
     ensures stop { OnOk result (V.stop judge.new ≡ None) }
 {
     let first = number_at(alloc, picture.values.as_slice(), left)?;
     let second = number_at(alloc, picture.values.as_slice(), right)?;
-    match (&first, &second) {
-        (Some(first), Some(second)) => split_known(alloc, op, first, second, picture, judge),
-        (None, _) | (Some(_), None) => {
-            let sides = unknown(alloc, picture)?;
-            Ok(sides)
-        }
-    }
+    split_by(alloc, op, &first, &second, picture, judge)
 }
 
 /// The sides of a condition in all pictures.
@@ -182,7 +219,9 @@ pub fn split_all<V: Decide>(
     judge: &mut V,
 ) -> Result<Sides, DecideFault>
     requires { V.stop judge.old ≡ None }
-    ensures rule { EndsWith result (λ s. sides s.trues s.falses) judge.new (run V.stop V.gives V.after (split_all left op right pictures.now (sides [] [])) judge.old) }
+    ensures rule { EndsWith result (λ s. sides s.trues s.falses) judge.new
+        (run V.stop V.gives V.after (split_all left op right pictures.now (sides [] []))
+        judge.old) }
     ensures stop { OnOk result (V.stop judge.new ≡ None) }
 {
     let mut trues = Items::new(alloc);

@@ -1,5 +1,6 @@
 //! The rules of statements, and the whole rule of a function.
-ghost use Rattle.std.specs.Prelude.{◌≡◌, None, [], OnOk};
+ghost use Rattle.std.specs.Prelude.{◌≡◌, None, [], ◌++◌, map, IfOk, OnOk};
+ghost use Rattle.sb_picture.specs.Tidying.{tidied};
 ghost use Rattle.sb_term.specs.Asks.{run, EndsAs};
 ghost use Rattle.sb_function.specs.Syntax.{Choose};
 ghost use Rattle.sb_judge.specs.Splits.{split_all};
@@ -10,14 +11,13 @@ ghost use Rattle.sb_picture.specs.Ends.{EndsWith};
 
 use crate::entry::enter;
 use crate::splits::{Sides, split_all};
-use crate::stores::store;
-use crate::warning::Warning;
 use sb_base::Place;
 use sb_function::{Comparison, Function, Simple, Statement};
 use sb_picture::{Copied, Picture, all_tidied};
+use sb_store::{Warning, store};
 use sb_term::{Decide, DecideFault};
 use sqlite_items::Items;
-use std::alloc::Global;
+use std::alloc::{AllocError, Global};
 
 /// A store in each picture in turn.
 #[tactic(auto, using(sb_term::specs::AskLaws::runs))]
@@ -32,7 +32,9 @@ fn store_all<V: Decide>(
     report: &mut Vec<Warning>,
 ) -> Result<Items<Picture>, DecideFault>
     requires { V.stop judge.old ≡ None }
-    ensures rule { EndsWith result (walked report.new.items) judge.new (run V.stop V.gives V.after (store_all array index value place pictures.now (walked report.old.items [])) judge.old) }
+    ensures rule { EndsWith result (walked report.new.items) judge.new
+        (run V.stop V.gives V.after
+        (store_all array index value place pictures.now (walked report.old.items [])) judge.old) }
     ensures stop { OnOk result (V.stop judge.new ≡ None) }
 {
     let mut after = Items::new(alloc);
@@ -55,7 +57,9 @@ fn walk<V: Decide>(
     report: &mut Vec<Warning>,
 ) -> Result<Items<Picture>, DecideFault>
     requires { V.stop judge.old ≡ None }
-    ensures rule { EndsWith result (walked report.new.items) judge.new (run V.stop V.gives V.after (walk (plain statement.now) pictures report.old.items) judge.old) }
+    ensures rule { EndsWith result (walked report.new.items) judge.new
+        (run V.stop V.gives V.after (walk (plain statement.now) pictures report.old.items)
+        judge.old) }
     ensures stop { OnOk result (V.stop judge.new ≡ None) }
 {
     match statement {
@@ -82,8 +86,32 @@ fn walk<V: Decide>(
             op,
             right,
             then,
-        } => { walk_if(alloc, *left, *op, *right, then, pictures, judge, report) }
+        } => {
+            walk_if(
+                alloc,
+                *left,
+                *op,
+                *right,
+                then,
+                pictures.as_slice(),
+                judge,
+                report,
+            )
+        }
     }
+}
+
+/// Pictures, tidied, and then others.
+fn tidied_before(
+    alloc: Global,
+    pictures: &[Picture],
+    others: Items<Picture>,
+) -> Result<Items<Picture>, AllocError>
+    ensures { IfOk result (λ all. all ≡ map tidied pictures.now ++ others) }
+{
+    let mut all = all_tidied(alloc, pictures)?;
+    all.append(others)?;
+    Ok(all)
 }
 
 /// A condition splits all pictures; the statement under it is walked in those where it is true, and then the others follow.
@@ -95,19 +123,20 @@ fn walk_if<V: Decide>(
     op: Comparison,
     right: Simple,
     then: &Statement,
-    pictures: Items<Picture>,
+    pictures: &[Picture],
     judge: &mut V,
     report: &mut Vec<Warning>,
 ) -> Result<Items<Picture>, DecideFault>
     requires { V.stop judge.old ≡ None }
-    ensures rule { EndsWith result (walked report.new.items) judge.new (run V.stop V.gives V.after (walk (Choose left op right (plain then.now)) pictures report.old.items) judge.old) }
+    ensures rule { EndsWith result (walked report.new.items) judge.new
+        (run V.stop V.gives V.after
+        (walk (Choose left op right (plain then.now)) pictures.now report.old.items) judge.old) }
     ensures stop { OnOk result (V.stop judge.new ≡ None) }
 {
-    let sides = split_all(alloc, left, op, right, pictures.as_slice(), judge)?;
+    let sides = split_all(alloc, left, op, right, pictures, judge)?;
     let Sides { trues, falses } = sides;
     let inner = walk(alloc, then, trues, judge, report)?;
-    let mut after = all_tidied(alloc, inner.as_slice())?;
-    after.append(falses)?;
+    let after = tidied_before(alloc, inner.as_slice(), falses)?;
     Ok(after)
 }
 
@@ -122,7 +151,9 @@ fn walk_list<V: Decide>(
     report: &mut Vec<Warning>,
 ) -> Result<Items<Picture>, DecideFault>
     requires { V.stop judge.old ≡ None }
-    ensures rule { EndsWith result (walked report.new.items) judge.new (run V.stop V.gives V.after (walk (in_order (plains statements.now)) pictures report.old.items) judge.old) }
+    ensures rule { EndsWith result (walked report.new.items) judge.new
+        (run V.stop V.gives V.after
+        (walk (in_order (plains statements.now)) pictures report.old.items) judge.old) }
     ensures stop { OnOk result (V.stop judge.new ≡ None) }
 {
     let mut current = pictures;
@@ -141,7 +172,9 @@ pub fn function_report<V: Decide>(
     judge: &mut V,
 ) -> Result<Items<Warning>, DecideFault>
     requires { V.stop judge.old ≡ None }
-    ensures rule { EndsAs result judge.new (run V.stop V.gives V.after (function_rule function.now.params.items (tree_of function.now).body) judge.old) }
+    ensures rule { EndsAs result judge.new
+        (run V.stop V.gives V.after
+        (function_rule function.now.params.items (tree_of function.now).body) judge.old) }
     ensures stop { OnOk result (V.stop judge.new ≡ None) }
 {
     let pictures = enter(alloc, function.params.as_slice(), judge)?;

@@ -8,8 +8,8 @@ use Rattle.sb_parse.specs.Parser.{Outcome, done, stop}
 use Rattle.sb_tree.specs.Plain.{plain_decls}
 use Rattle.sb_lexicon.specs.Outcomes.{number_of, feature_of, left_of, place_of}
 use Rattle.sb_specifier.specs.Readers.{Declarations}
-use Rattle.sb_decl.specs.Reads.{IsUnitRead}
-use Rattle.sb_decl.proofs.UnitLaws.{unit_complete}
+use Rattle.sb_unit.specs.Reads.{IsUnitRead}
+use Rattle.sb_unit.proofs.laws.Units.{unit_complete}
 use Rattle.sb_top.specs.Sets.{HasTree, IsMisread}
 
 -- what `tree` refuses is misread

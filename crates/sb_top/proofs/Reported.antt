@@ -5,7 +5,7 @@ use Rattle.sb_term.specs.declared.answer.Answer.{Answer}
 use Rattle.sb_term.specs.Answers.{IsLawful}
 use Rattle.sb_function.specs.Syntax.{FunctionTree}
 use Rattle.sb_picture.specs.Contract.{Safe, AreSafe}
-use Rattle.sb_judge.specs.declared.warning.Warning.{Warning}
+use Rattle.sb_store.specs.declared.warning.Warning.{Warning}
 use Rattle.sb_judge.specs.Walks.{answered, function_rule, report}
 use Rattle.sb_judge.proofs.Soundness.Answered.{answered_always}
 use Rattle.sb_judge.proofs.Soundness.Sound.{functions_are_safe}

@@ -6,7 +6,7 @@ use Rattle.sb_base.specs.declared.tokens.Token.{Token}
 use Rattle.sb_term.specs.AnswerOf.{answer_of}
 use Rattle.sb_top.specs.declared.status.Status.{Status}
 use Rattle.sb_top.specs.declared.status.Status.TheVariants.{Clean, Warned, Refused, Usage}
-use Rattle.sb_judge.specs.declared.warning.Warning.{Warning}
+use Rattle.sb_store.specs.declared.warning.Warning.{Warning}
 use Rattle.sb_function.specs.Syntax.{FunctionTree}
 use Rattle.sb_judge.specs.Walks.{report}
 use Rattle.sb_top.specs.Texts.{usage, refusal, count_of, report_text}

@@ -7,8 +7,8 @@ use Rattle.sb_base.specs.Outside.{Rose}
 use Rattle.sb_parse.specs.Read.{IsRefused}
 use Rattle.sb_lexicon.specs.Outcomes.{IsRefusedBy}
 use Rattle.sb_specifier.specs.Readers.{Declarations}
-use Rattle.sb_decl.specs.Readers.{unit_reader}
-use Rattle.sb_decl.specs.Reads.{FitsUnit}
+use Rattle.sb_unit.specs.Readers.{unit_reader}
+use Rattle.sb_unit.specs.Reads.{FitsUnit}
 use Rattle.sb_prep.specs.Ending.{Ended, Refused}
 use Rattle.sb_prep.specs.Unit.{IsUnit}
 use Rattle.sb_prep.specs.declared.fault.UnitFault.{UnitFault}

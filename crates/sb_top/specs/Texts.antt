@@ -10,8 +10,8 @@ use Rattle.sb_term.specs.Ratio.{Ratio}
 use Rattle.sb_picture.specs.declared.picture.Part.{Part}
 use Rattle.sb_picture.specs.declared.picture.Part.TheVariants.{Number, Present, Extent, Written}
 use Rattle.sb_picture.specs.declared.picture.Label.{Label}
-use Rattle.sb_judge.specs.declared.warning.Warning.{Warning}
-use Rattle.sb_judge.specs.Reports.{number_of, text_of}
+use Rattle.sb_store.specs.declared.warning.Warning.{Warning}
+use Rattle.sb_store.specs.Reports.{number_of, text_of}
 
 abbrev pub usage : List ℕ
 usage = codes "usage: prefast COMMAND ARGUMENT...\n"

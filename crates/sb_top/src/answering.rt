@@ -20,7 +20,9 @@ fn reply_to_units(
     files: &Files,
     units: &[Vec<Token>],
 ) -> Result<Reply, AllocError>
-    ensures { IfOk result (λ reply. IsEndOf names.now.texts files.now (tokens_of units.now) Whole reply.status reply.text.items) }
+    ensures { IfOk result
+        (λ reply. IsEndOf names.now.texts files.now (tokens_of units.now) Whole reply.status
+        reply.text.items) }
 {
     match read_units(alloc, names, units) {
         Ok(functions) => {
@@ -38,7 +40,9 @@ pub(crate) fn reply_to<L: Library>(
     words: &[String],
     lib: &mut L,
 ) -> Result<Reply, FetchFault>
-    ensures defined { IfOk result (λ reply. IsDefined (L.held lib.old) (map string_bytes words.now) reply.status reply.text.items) }
+    ensures defined { IfOk result
+        (λ reply. IsDefined (L.held lib.old) (map string_bytes words.now) reply.status
+        reply.text.items) }
     ensures held { L.held lib.new ≡ L.held lib.old }
     ensures cause { HasReadCause (L.faults lib.old) (L.faults lib.new) result }
 {

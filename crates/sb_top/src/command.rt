@@ -31,7 +31,8 @@ fn are_file_names(words: &[String]) -> bool
 
 /// The files that the words ask for, or None where they are no command.
 pub(crate) fn files_of_words(words: &[String]) -> Option<&[String]>
-    ensures files { option_map (map string_bytes) (option_copied result) ≡ files_of_words (map string_bytes words.now) }
+    ensures files { option_map (map string_bytes) (option_copied result)
+        ≡ files_of_words (map string_bytes words.now) }
     ensures count { IfSome result (λ files. length files.now ≤ 256) }
 {
     let (command, files) = words.split_first()?;

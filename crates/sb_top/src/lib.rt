@@ -30,9 +30,12 @@ pub fn prefast<L: Library, S: Sink>(
     lib: &mut L,
     out: &mut S,
 ) -> Status
-    ensures stands { Stands (IsDefined (L.held lib.old) (map string_bytes words.now)) (S.written out.old) (S.written out.new) result }
-    ensures safe { result ≡ Status.Clean → (told : List ℕ → Option (List ℕ)) → L.held lib.old ≡ Some told → AreSafeIn told (map string_bytes words.now) }
-    ensures only { (told : List ℕ → Option (List ℕ)) → L.held lib.old ≡ Some told → HasOneOutcome told (map string_bytes words.now) }
+    ensures stands { Stands (IsDefined (L.held lib.old) (map string_bytes words.now))
+        (S.written out.old) (S.written out.new) result }
+    ensures safe { result ≡ Status.Clean → (told : List ℕ → Option (List ℕ)) → L.held lib.old
+        ≡ Some told → AreSafeIn told (map string_bytes words.now) }
+    ensures only { (told : List ℕ → Option (List ℕ)) → L.held lib.old ≡ Some told
+        → HasOneOutcome told (map string_bytes words.now) }
     ensures held { L.held lib.new ≡ L.held lib.old }
     ensures read_fault { result ≡ Status.ReadFault → Rose (L.faults lib.old) (L.faults lib.new) }
     ensures read_told { (result ≡ Status.ReadFault → ⊥) → L.faults lib.new ≡ L.faults lib.old }

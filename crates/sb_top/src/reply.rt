@@ -6,7 +6,7 @@ ghost use Rattle.sb_top.specs.Outcomes.{status_of, not_built_yet};
 use crate::status::Status;
 use crate::texts::{USAGE, count_of, refusal, report_text};
 use sb_base::{Files, Names, Place, Refusal};
-use sb_judge::Warning;
+use sb_store::Warning;
 use sqlite_items::Items;
 use std::alloc::{AllocError, Global};
 
@@ -37,7 +37,8 @@ pub(crate) fn report_reply(
     reports: &[Items<Warning>],
 ) -> Result<Reply, AllocError>
     ensures status { IfOk result (λ reply. reply.status ≡ status_of reports.now) }
-    ensures text { IfOk result (λ reply. reply.text.items ≡ text.report_text files.now names.now.texts reports.now) }
+    ensures text { IfOk result
+        (λ reply. reply.text.items ≡ text.report_text files.now names.now.texts reports.now) }
 {
     let text = report_text(alloc, files, names, reports)?;
     let status = if count_of(reports) == 0 {
@@ -67,7 +68,8 @@ pub(crate) fn refusal_reply(
 /// The refusal of a unit that is no text of the grammar that is checked, at a place.
 pub(crate) fn unread_reply(alloc: Global, files: &Files, place: Place) -> Result<Reply, AllocError>
     ensures status { IfOk result (λ reply. reply.status ≡ Status.Refused) }
-    ensures text { IfOk result (λ reply. reply.text.items ≡ text.refusal files.now (not_built_yet place)) }
+    ensures text { IfOk result
+        (λ reply. reply.text.items ≡ text.refusal files.now (not_built_yet place)) }
 {
     let refusal = Refusal {
         number: 33,

@@ -40,7 +40,8 @@ fn whole_unit<L: Library>(
     name: &[u8],
 ) -> Result<Vec<Token>, UnitFault>
     requires room { length files.old ≤ 2 ^ 31 }
-    ensures unit { UnitEndsAs (L.held lib.old) names.old.limit name.now names.old.texts files.old names.new.texts files.new result }
+    ensures unit { UnitEndsAs (L.held lib.old) names.old.limit name.now names.old.texts files.old
+        names.new.texts files.new result }
     ensures limit { names.new.limit ≡ names.old.limit }
     ensures held { L.held lib.new ≡ L.held lib.old }
     ensures cause { HasUnitCause (L.faults lib.old) (L.faults lib.new) result }
@@ -61,7 +62,8 @@ pub(crate) fn units<L: Library>(
     lib: &mut L,
     asked: &[String],
 ) -> Result<Vec<Vec<Token>>, UnitFault>
-    ensures units { EndAs (L.held lib.old) names.old.limit names.old.texts files.old (map string_bytes asked.now) names.new.texts files.new result }
+    ensures units { EndAs (L.held lib.old) names.old.limit names.old.texts files.old
+        (map string_bytes asked.now) names.new.texts files.new result }
     ensures cause { HasUnitCause (L.faults lib.old) (L.faults lib.new) result }
     ensures held { L.held lib.new ≡ L.held lib.old }
 {

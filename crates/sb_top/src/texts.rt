@@ -4,8 +4,8 @@ ghost use Rattle.std.specs.Option.{option_copied};
 ghost use Rattle.sb_top.specs.Texts as text;
 
 use sb_base::{Files, Names, Refusal};
-use sb_judge::Warning;
 use sb_picture::{Label, Part};
+use sb_store::Warning;
 use sb_term::{Answer, Rat, Sym};
 use sqlite_items::Items;
 use std::alloc::{AllocError, Global};
@@ -120,7 +120,8 @@ fn ending_of(part: Part) -> &'static str
 
 /// Appends the spelling of a symbol's label.
 fn append_label(out: &mut Vec<u8>, names: &Names, held: Option<&Label>) -> Result<(), AllocError>
-    ensures { OnOk result (out.new.items ≡ out.old.items ++ text.label names.now.texts (option_copied held.entry)) }
+    ensures { OnOk result
+        (out.new.items ≡ out.old.items ++ text.label names.now.texts (option_copied held.entry)) }
 {
     let Some(label) = held else {
         return out.extend_from_slice(b"v");
@@ -155,7 +156,8 @@ fn append_assigned(
     labels: &Items<Label>,
     entry: &(Sym, Rat),
 ) -> Result<(), AllocError>
-    ensures { OnOk result (out.new.items ≡ out.old.items ++ text.assigned names.now.texts labels.now entry.now) }
+    ensures { OnOk result
+        (out.new.items ≡ out.old.items ++ text.assigned names.now.texts labels.now entry.now) }
 {
     let (Sym(number), value) = entry;
     append_label(out, names, labels.get(*number as usize))?;
@@ -172,7 +174,8 @@ fn append_assignment(
     labels: &Items<Label>,
     entries: &[(Sym, Rat)],
 ) -> Result<(), AllocError>
-    ensures { OnOk result (out.new.items ≡ out.old.items ++ text.assignment names.now.texts labels.now entries.now) }
+    ensures { OnOk result
+        (out.new.items ≡ out.old.items ++ text.assignment names.now.texts labels.now entries.now) }
 {
     let Some((first, more)) = entries.split_first() else {
         return out.extend_from_slice(b"-");
@@ -193,7 +196,8 @@ fn append_reason(
     labels: &Items<Label>,
     answer: &Answer,
 ) -> Result<(), AllocError>
-    ensures { OnOk result (out.new.items ≡ out.old.items ++ text.reason names.now.texts labels.now answer.now) }
+    ensures { OnOk result
+        (out.new.items ≡ out.old.items ++ text.reason names.now.texts labels.now answer.now) }
 {
     match answer {
         Answer::Proved(_) => Ok(()),
@@ -215,7 +219,8 @@ fn append_warning(
     names: &Names,
     warning: &Warning,
 ) -> Result<(), AllocError>
-    ensures { OnOk result (out.new.items ≡ out.old.items ++ text.warning files.now names.now.texts warning.now) }
+    ensures { OnOk result
+        (out.new.items ≡ out.old.items ++ text.warning files.now names.now.texts warning.now) }
 {
     let (place, need) = (warning.place, warning.need);
     let (number, what) = (need.number(), need.text());
@@ -233,7 +238,8 @@ fn append_warnings(
     names: &Names,
     warnings: &[Warning],
 ) -> Result<(), AllocError>
-    ensures { OnOk result (out.new.items ≡ out.old.items ++ text.warnings files.now names.now.texts warnings.now) }
+    ensures { OnOk result
+        (out.new.items ≡ out.old.items ++ text.warnings files.now names.now.texts warnings.now) }
 {
     for warning in warnings {
         append_warning(alloc, out, files, names, warning)?;
@@ -259,7 +265,8 @@ pub(crate) fn report_text(
     names: &Names,
     reports: &[Items<Warning>],
 ) -> Result<Vec<u8>, AllocError>
-    ensures { IfOk result (λ bytes. bytes.items ≡ text.report_text files.now names.now.texts reports.now) }
+    ensures { IfOk result
+        (λ bytes. bytes.items ≡ text.report_text files.now names.now.texts reports.now) }
 {
     let mut out = Vec::new(alloc);
     for report in reports {

@@ -17,22 +17,22 @@ use Rattle.sb_picture.specs.declared.picture.Value.{Value}
 use Rattle.sb_picture.specs.declared.picture.Value.TheVariants.{Number, Pointer, Unknown}
 use Rattle.sb_picture.specs.declared.picture.Region.{Region}
 use Rattle.sb_picture.specs.declared.picture.Picture.{Picture}
-use Rattle.sb_judge.specs.declared.warning.Need.{Need}
-use Rattle.sb_judge.specs.declared.warning.Need.TheVariants.{Present, Known, FromStart, BeforeEnd}
-use Rattle.sb_judge.specs.declared.warning.Warning.{Warning}
+use Rattle.sb_store.specs.declared.warning.Need.{Need}
+use Rattle.sb_store.specs.declared.warning.Need.TheVariants.{Present, Known, FromStart, BeforeEnd}
+use Rattle.sb_store.specs.declared.warning.Warning.{Warning}
 use Rattle.sb_picture.specs.Memory.{Memory, Byte, Pointer as Address, moved, Reach, Outside, Reached, Missed, reach, reach_in, overwrite, int_bytes, size_in, size_of}
 use Rattle.sb_picture.specs.Machine.{Held, Count, Leads, Outcome, Next, count_in, number_of, pointer_in, pointer_of, stored}
 use Rattle.sb_picture.specs.Pictures.{minus, next, number_in, number_at}
 use Rattle.sb_picture.specs.Asking.{ask, is_proved, never}
-use Rattle.sb_judge.specs.Reports.{noted, is_before, is_alike}
-use Rattle.sb_judge.specs.Stores.{told, needed, bounds, after_store, store_at, store_unknown, offset_of, store_in, store_by}
+use Rattle.sb_store.specs.Reports.{noted, is_before, is_alike}
+use Rattle.sb_store.specs.Stores.{told, needed, bounds, after_store, store_at, store_unknown, offset_of, store_in, store_by}
 use Rattle.sb_picture.specs.Describes.{Setting, IsHere, RegionIs, PointsTo, PointsIn, ValueIs, ValuesAre, IsBelow, IsFormed, Describes}
 use Rattle.sb_judge.specs.Laws.{IsCovered, StoreOwes, StoreLaw}
 use Rattle.sb_picture.proofs.Soundness.Points.{value-minus, formed_is, IfFormed, below-constant, below-combined}
 use Rattle.sb_picture.proofs.Soundness.Asked.{IsTold, told_formed, Tells, ask_tells}
 use Rattle.sb_picture.proofs.Soundness.Bytes.{changes, int_whole}
 use Rattle.sb_picture.proofs.Soundness.Stepped.{setting_after, stepped_describes, stepped_since}
-use Rattle.sb_judge.proofs.Soundness.Stored.{Placed, store_goes}
+use Rattle.sb_store.proofs.Stored.{Placed, store_goes}
 
 -- needs: a warning that was taken up stays
 

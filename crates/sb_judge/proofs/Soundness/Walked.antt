@@ -7,12 +7,12 @@ use Rattle.sb_function.specs.declared.syntax.Simple.{Simple}
 use Rattle.sb_function.specs.declared.syntax.Comparison.{Comparison}
 use Rattle.sb_function.specs.declared.syntax.Param.{Param}
 use Rattle.sb_picture.specs.declared.picture.Picture.{Picture}
-use Rattle.sb_judge.specs.declared.warning.Warning.{Warning}
+use Rattle.sb_store.specs.declared.warning.Warning.{Warning}
 use Rattle.sb_function.specs.Syntax.{Plain, Skip, Then, Store, Choose}
 use Rattle.sb_picture.specs.Memory.{Memory}
 use Rattle.sb_picture.specs.Machine.{Held, Outcome, Next, Faulted, number_of, compares, After, Branch, Runs}
 use Rattle.sb_picture.specs.Contract.{Enters, EndsWell, Safe}
-use Rattle.sb_judge.specs.Stores.{Judged, store_rule}
+use Rattle.sb_store.specs.Stores.{Judged, store_rule}
 use Rattle.sb_judge.specs.Splits.{Sides, split, joined, split_all}
 use Rattle.sb_picture.specs.Tidying.{tidied}
 use Rattle.sb_judge.specs.Entry.{enter}

@@ -4,59 +4,21 @@ use Rattle.sb_base.specs.declared.refusals.Place.{Place}
 use Rattle.sb_term.specs.declared.query.Query.{Query}
 use Rattle.sb_term.specs.declared.answer.Answer.{Answer}
 use Rattle.sb_term.specs.declared.fault.DecideFault.{DecideFault}
-use Rattle.sb_term.specs.declared.fault.DecideFault.TheVariants.{BadLine, EndOfCert, Memory}
 use Rattle.sb_term.specs.Linear.{Linear}
-use Rattle.sb_term.specs.Asks.{Asks, after_it, each_onto, Ended, stopped, run, EndsAs}
-use Rattle.sb_term.specs.AskLaws.{run_on, run-after_it}
+use Rattle.sb_term.specs.Asks.{each_onto, Ended, run, EndsAs}
 use Rattle.sb_picture.specs.declared.picture.Picture.{Picture}
 use Rattle.sb_function.specs.declared.syntax.Simple.{Simple}
 use Rattle.sb_function.specs.declared.syntax.Comparison.{Comparison}
-use Rattle.sb_judge.specs.declared.warning.Warning.{Warning}
+use Rattle.sb_store.specs.declared.warning.Warning.{Warning}
 use Rattle.sb_picture.specs.Asking.{assume}
 use Rattle.sb_judge.specs.Splits.{Sides, split, split_all, joined, sides}
-use Rattle.sb_judge.specs.Stores.{Judged, store_rule}
+use Rattle.sb_store.specs.Stores.{Judged, store_rule}
 use Rattle.sb_judge.specs.Walks.{Walked, walked, store_all}
 use Rattle.sb_picture.specs.Ends.{EndsWith}
 use Rattle.sb_picture.proofs.Steps.Assuming.{left_at}
-
--- the fault that ends a run; want of memory may stand in place of any end
-abbrev pub Ends : {S A : Type 0} → DecideFault → S → Ended S A → Type 0
-Ends Memory s e = Unit {0}
-Ends (BadLine n) s e = e ≡ stopped s (BadLine n)
-Ends (EndOfCert n) s e = e ≡ stopped s (EndOfCert n)
-
-from_as : {S A : Type 0} (fault : DecideFault) (s : S) (e : Ended S A) → EndsAs {A = A} (Err fault) s e → Ends fault s e
-from_as Memory s e h = h
-from_as (BadLine n) s e h = h
-from_as (EndOfCert n) s e h = h
-
-to_as : {S A : Type 0} (fault : DecideFault) (s : S) (e : Ended S A) → Ends fault s e → EndsAs {A = A} (Err fault) s e
-to_as Memory s e h = h
-to_as (BadLine n) s e h = h
-to_as (EndOfCert n) s e h = h
-
-pub from_with : {S A B : Type 0} (seen : A → B) (fault : DecideFault) (s : S) (e : Ended S B) → EndsWith {A = A} (Err fault) seen s e → Ends fault s e
-from_with seen Memory s e h = h
-from_with seen (BadLine n) s e h = h
-from_with seen (EndOfCert n) s e h = h
-
-pub to_with : {S A B : Type 0} (seen : A → B) (fault : DecideFault) (s : S) (e : Ended S B) → Ends fault s e → EndsWith {A = A} (Err fault) seen s e
-to_with seen Memory s e h = h
-to_with seen (BadLine n) s e h = h
-to_with seen (EndOfCert n) s e h = h
-
-run_on-stopped : {S A B : Type 0} (f : A → S → Ended S B) (fault : DecideFault) (t : S) (e : Ended S A) → Ends fault t e → Ends fault t (run_on f e)
-run_on-stopped f Memory t e h = tt
-run_on-stopped f (BadLine n) t e h = ap (run_on f) h
-run_on-stopped f (EndOfCert n) t e h = ap (run_on f) h
+use Rattle.sb_picture.proofs.Steps.Exits.{Ends, from_as, to_as, from_with, to_with, stops}
 
 module _ {S : Type 0} (stop : S → Option DecideFault) (gives : S → Query → Answer) (after : S → Query → S) where
-  -- what follows a rule that is stopped is stopped
-  pub stops : {A B : Type 0} (rule : Asks A) (f : A → Asks B) (s t : S) (fault : DecideFault) → Ends fault t (run stop gives after rule s) → Ends fault t (run stop gives after (after_it rule f) s)
-  stops {B = B} rule f s t fault h =
-      let P : Ended S B → Type 0 = λ e. Ends fault t e in
-      subst P (sym (run-after_it stop gives after rule f s)) (run_on-stopped (λ a u. run stop gives after (f a) u) fault t (run stop gives after rule s) h)
-
   pub in_ways-stops : (out : List Picture) (cs : List (List (Option Linear))) (i : ℕ) (c w : List (Option Linear)) (p q : Picture) (s t : S) (fault y : DecideFault) (r : Result (List Picture) DecideFault)
       (whole : Ended S (List Picture)) → i < length cs → c ≡ get_or cs i c → w ≡ c → q ≡ p → EndsAs {A = List Picture} (Err fault) t (run stop gives after (assume w q) s)
       → run stop gives after (each_onto out (drop i cs) (λ x. assume x p)) s ≡ whole → r ≡ Err y → y ≡ fault → EndsAs r t whole
@@ -64,7 +26,7 @@ module _ {S : Type 0} (stop : S → Option DecideFault) (gives : S → Query →
       let P : Ended S (List Picture) → Type 0 = λ e. Ends fault t e in
       let Q : Ended S (List Picture) → Type 0 = λ e. Ends fault t e in
       let turn = subst Q (ap (λ x. run stop gives after (assume x q) s) same ∙ ap (λ x. run stop gives after (assume c x) s) from) (from_as fault t (run stop gives after (assume w q) s) asked) in
-      let left = stops (assume c p) (λ ys. each_onto (out ++ ys) (drop (i + 1) cs) (λ x. assume x p)) s t fault turn in
+      let left = stops stop gives after (assume c p) (λ ys. each_onto (out ++ ys) (drop (i + 1) cs) (λ x. assume x p)) s t fault turn in
       let R : Result (List Picture) DecideFault → Type 0 = λ x. EndsAs x t whole in
       subst R (sym (result ∙ ap Err cause))
       (to_as fault t whole (subst P (sym (ap (λ l. run stop gives after (each_onto out l (λ x. assume x p)) s) (left_at cs i c lt is)) ∙ all) left))
@@ -74,7 +36,7 @@ module _ {S : Type 0} (stop : S → Option DecideFault) (gives : S → Query →
       → run stop gives after (split_all left op right (drop i ps) (sides ts fs)) s ≡ whole → r ≡ Err y → y ≡ fault → EndsWith r seen t whole
   split-stops {T} seen left op right ps i p ts fs s t fault y r whole lt is asked all result cause =
       let P : Ended S Sides → Type 0 = λ e. Ends fault t e in
-      let turn = stops (split left op right p) (λ x. split_all left op right (drop (i + 1) ps) (joined (sides ts fs) x)) s t fault (from_with seen fault t (run stop gives after (split left op right p) s) asked) in
+      let turn = stops stop gives after (split left op right p) (λ x. split_all left op right (drop (i + 1) ps) (joined (sides ts fs) x)) s t fault (from_with seen fault t (run stop gives after (split left op right p) s) asked) in
       let R : Result T DecideFault → Type 0 = λ x. EndsWith x seen t whole in
       subst R (sym (result ∙ ap Err cause))
       (to_with seen fault t whole (subst P (sym (ap (λ l. run stop gives after (split_all left op right l (sides ts fs)) s) (left_at ps i p lt is)) ∙ all) turn))
@@ -87,7 +49,7 @@ module _ {S : Type 0} (stop : S → Option DecideFault) (gives : S → Query →
       let P : Ended S Walked → Type 0 = λ e. Ends fault t e in
       let Q : Ended S Judged → Type 0 = λ e. Ends fault t e in
       let one = subst Q (ap (λ x. run stop gives after (store_rule array index value place x ws) s) from) (from_with seen fault t (run stop gives after (store_rule array index value place q ws) s) asked) in
-      let turn = stops (store_rule array index value place p ws) (λ j. store_all array index value place (drop (i + 1) ps) (walked j.warnings (out ++ j.picture ∷ []))) s t fault one in
+      let turn = stops stop gives after (store_rule array index value place p ws) (λ j. store_all array index value place (drop (i + 1) ps) (walked j.warnings (out ++ j.picture ∷ []))) s t fault one in
       let R : Result U DecideFault → Type 0 = λ x. EndsWith x shown t whole in
       subst R (sym (result ∙ ap Err cause))
       (to_with shown fault t whole (subst P (sym (ap (λ l. run stop gives after (store_all array index value place l (walked ws out)) s) (left_at ps i p lt is)) ∙ all) turn))

@@ -10,9 +10,9 @@ use Rattle.sb_function.specs.declared.syntax.Simple.{Simple}
 use Rattle.sb_function.specs.declared.syntax.Comparison.{Comparison}
 use Rattle.sb_picture.specs.declared.picture.Picture.{Picture}
 use Rattle.sb_picture.proofs.Steps.Assuming.{left_at}
-use Rattle.sb_judge.specs.declared.warning.Warning.{Warning}
+use Rattle.sb_store.specs.declared.warning.Warning.{Warning}
 use Rattle.sb_judge.specs.Splits.{split, split_all, joined, sides}
-use Rattle.sb_judge.specs.Stores.{store_rule, judged}
+use Rattle.sb_store.specs.Stores.{store_rule, judged}
 use Rattle.sb_judge.specs.Walks.{walked, store_all}
 
 module _ {S : Type 0} (stop : S → Option DecideFault) (gives : S → Query → Answer) (after : S → Query → S) where

@@ -2,10 +2,10 @@ use Rattle.std.proofs.Common.{List, sym, ap, ◌∙◌, drop, ◌+◌}
 use Rattle.sb_term.specs.Asks.{run}
 use Rattle.sb_picture.specs.declared.picture.Picture.{Picture}
 use Rattle.sb_judge.specs.Walks.{store_all, walked}
-use Rattle.sb_judge.specs.Stores.{store_rule}
+use Rattle.sb_store.specs.Stores.{store_rule}
 use Rattle.sb_judge.proofs.Steps.Turns.{store-turn}
 use Rattle.std.proofs.lemmas.Result.{err_from_is_err_and}
-use Rattle.sb_judge.specs.Stores.{judged}
+use Rattle.sb_store.specs.Stores.{judged}
 use Rattle.sb_judge.proofs.Steps.Exits.{store-stops}
 use Rattle.sb_judge.proofs.walks.store_all.Goals as goal
 

@@ -1,0 +1,41 @@
+-- the warnings of a function: by place and number, of equal ones the first that was asked
+use Rattle.std.specs.Prelude.{ℕ, Bool, ◌&&◌, ◌||◌, List, [], ◌∷◌, Option, Some, None, insert, codes, nat_eq, nat_lt, if◌then◌else◌}
+use Rattle.sb_store.specs.declared.warning.Need.{Need}
+use Rattle.sb_store.specs.declared.warning.Need.TheVariants.{Present, Known, FromStart, BeforeEnd}
+use Rattle.sb_store.specs.declared.warning.Warning.{Warning}
+
+-- the number of a warning
+abbrev pub number_of : Need → ℕ
+number_of Present = 101
+number_of Known = 102
+number_of FromStart = 103
+number_of BeforeEnd = 104
+
+-- its words
+abbrev pub text_of : Need → List ℕ
+text_of Present = codes "may be null"
+text_of Known = codes "target not known"
+text_of FromStart = codes "before the start"
+text_of BeforeEnd = codes "past the end"
+
+-- the order of two numbers, and what decides where they are equal
+abbrev pub is_before_or : ℕ → ℕ → Bool → Bool
+is_before_or a b otherwise = nat_lt a b || (nat_eq a b && otherwise)
+
+abbrev pub is_before : Warning → Warning → Bool
+is_before w x =
+    is_before_or w.place.file x.place.file (is_before_or w.place.line x.place.line (is_before_or w.place.col x.place.col
+    (nat_lt (number_of w.need) (number_of x.need))))
+
+abbrev pub is_alike : Warning → Warning → Bool
+is_alike w x = nat_eq w.place.file x.place.file && nat_eq w.place.line x.place.line && nat_eq w.place.col x.place.col && nat_eq (number_of w.need) (number_of x.need)
+
+-- one warning more, in its place
+abbrev pub noted : Warning → List Warning → List Warning
+noted w [] = w ∷ []
+noted w (x ∷ xs) = if is_before w x then w ∷ x ∷ xs else (if is_alike w x then x ∷ xs else x ∷ noted w xs)
+
+-- a warning at an index of a list, or nowhere
+abbrev pub put_at : Warning → List Warning → Option ℕ → List Warning
+put_at w xs None = xs
+put_at w xs (Some at) = insert xs at w
