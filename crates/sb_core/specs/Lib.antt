@@ -1,0 +1,9 @@
+pub mod Trees
+pub mod Plain
+pub mod Layout
+pub mod Looked
+pub mod Beginning
+pub mod Sorts
+pub mod Labels
+pub mod Formed
+pub mod Laws

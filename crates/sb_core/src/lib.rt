@@ -1,0 +1,26 @@
+//! The typed core of a set of translation units: types, expressions without effects, statements, functions with their
+//! annotations, contracts, and the layout of types.
+#![tactic(auto)]
+
+mod contract;
+mod expression;
+mod expressions;
+mod layout;
+mod meaning;
+mod note;
+mod notes;
+mod operator;
+mod program;
+mod statement;
+mod statements;
+mod types;
+
+pub use contract::{Atom, Clause, ClauseKind, Compare, Contract, Guard, Location, Size};
+pub use expression::CoreExpr;
+pub use layout::{Base, Layout, Spot};
+pub use meaning::laws;
+pub use note::{CoreArg, CoreNote, CoreSize, Declared};
+pub use operator::{CompareOp, NumOp, SignOp, SizeBinary, SizeUnary};
+pub use program::{Core, Function, Holds, Param, Slot, Table};
+pub use statement::{CoreStmt, Entry, Section};
+pub use types::{Kind, Member, TypeId, Types};
