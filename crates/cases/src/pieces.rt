@@ -1,9 +1,8 @@
 //! Cases of pieces: what `lex` makes of a text, and the values of numbers, characters and literals.
 
-use crate::block::spelled;
 use sb_base::{Names, PpKind, Stop};
 use sb_lex::{PpToken, character_value, is_literal, lex, literal_bytes, number_value};
-use sb_show::{Report, put_place};
+use sb_show::{Report, put_place, spelled};
 use std::alloc::Global;
 
 fn kind_word(kind: PpKind) -> &'static str {

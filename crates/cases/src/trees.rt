@@ -1,13 +1,12 @@
 //! Cases of trees: expressions, type names, annotations and translation units.
 ghost use Rattle.std.specs.Prelude.{◌≡◌, ◌≤◌};
 
-use crate::block::Block;
 use crate::pieces::put_stop;
 use crate::units::put_tokens;
 use sb_base::{Names, Token};
 use sb_grammar::{expr, notes, tree, type_name};
 use sb_lexicon::{ReadFault, Reason, stop_at};
-use sb_show::{Part, Report, put_part};
+use sb_show::{Block, Part, Report, put_part};
 use sb_sign::{Keyword, Mark, is_keyword, is_mark, keyword_of, mark_of, name_of};
 use sb_tree::{Cursor, Scope};
 use std::alloc::{AllocError, Global};

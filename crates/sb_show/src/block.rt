@@ -9,17 +9,17 @@ use std::alloc::{AllocError, Global};
 
 /// A block of cases.
 #[derive(Clone, Copy)]
-pub(crate) struct Block<'a> {
+pub struct Block<'a> {
     /// Its words.
-    pub(crate) words: &'a str,
+    pub words: &'a str,
     /// Its lines.
-    pub(crate) lines: &'a str,
+    pub lines: &'a str,
     /// Its files, each with its name on the first line, cut where a line begins with `-- `.
-    pub(crate) files: Option<&'a str>,
+    pub files: Option<&'a str>,
 }
 
 impl<'a> Block<'a> {
-    pub(crate) fn new(text: &'a str) -> Block<'a> {
+    pub fn new(text: &'a str) -> Block<'a> {
         let (head, files) = match text.split_once("\n-- ") {
             Some((head, files)) => (head, Some(files)),
             None => (text, None),
@@ -33,18 +33,18 @@ impl<'a> Block<'a> {
     }
 
     /// Word `index` from 0, or nothing.
-    pub(crate) fn word(&self, index: usize) -> &'a str {
+    pub fn word(&self, index: usize) -> &'a str {
         self.words.split(' ').nth(index).unwrap_or("")
     }
 
     /// The number that word `index` is, and else `otherwise`.
-    pub(crate) fn number(&self, index: usize, otherwise: u32) -> u32 {
+    pub fn number(&self, index: usize, otherwise: u32) -> u32 {
         self.word(index).parse::<u32>().unwrap_or(otherwise)
     }
 }
 
 /// The bytes that a text of a block spells, with those of the case in its holes.
-pub(crate) fn spelled(alloc: Global, text: &str, case: &[u8]) -> Result<Vec<u8>, AllocError> {
+pub fn spelled(alloc: Global, text: &str, case: &[u8]) -> Result<Vec<u8>, AllocError> {
     let mut bytes = Vec::new(alloc);
     for (index, part) in text.split('`').enumerate() {
         if index == 0 {

@@ -1,10 +1,9 @@
 //! Cases of the tables of names and of files, of libraries and of sinks. Each line is an order and what it is given.
 
-use crate::block::spelled;
 use sb_base::{
     FetchFault, Fetched, Files, Found, Library, MemSink, Name, Names, NamesFault, Sink, fetch_file,
 };
-use sb_show::Report;
+use sb_show::{Report, spelled};
 use std::alloc::Global;
 
 fn put_text(text: Option<&[u8]>, report: &mut Report) {

@@ -1,9 +1,7 @@
 //! Cases of whole commands: the status, and what is written.
 
-use crate::block::Block;
-use crate::units::{calls, library};
 use sb_base::{Library, MemSink};
-use sb_show::Report;
+use sb_show::{Block, Report, calls, library};
 use sb_top::prefast;
 use std::alloc::{AllocError, Global};
 
