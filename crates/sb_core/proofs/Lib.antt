@@ -1,3 +1,6 @@
 pub mod Beginning
 pub mod Sorts
+pub mod Gathering
+pub mod Sorting
+mod Nodes
 pub mod Rounding

@@ -5,5 +5,6 @@ pub mod Looked
 pub mod Beginning
 pub mod Sorts
 pub mod Labels
+pub mod Assigned
 pub mod Formed
 pub mod Laws

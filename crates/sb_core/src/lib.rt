@@ -2,6 +2,7 @@
 //! annotations, contracts, and the layout of types.
 #![tactic(auto)]
 
+mod assignment;
 mod contract;
 mod expression;
 mod expressions;
@@ -15,6 +16,7 @@ mod statement;
 mod statements;
 mod types;
 
+pub use assignment::assigned;
 pub use contract::{Atom, Clause, ClauseKind, Compare, Contract, Guard, Location, Size};
 pub use expression::CoreExpr;
 pub use layout::{Base, Layout, Spot};
