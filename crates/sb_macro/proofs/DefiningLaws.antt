@@ -1,5 +1,5 @@
 -- A line is read as a definition exactly where it is one.
-use Rattle.std.proofs.Common.{◌≡◌, ◌&&◌, ℕ, Bool, true, false, not, List, [], ◌∷◌, ◌++◌, Option, Some, None, Result, Ok, Err, ap, refl, sym, ◌∙◌, subst, append_assoc, if◌then◌else◌, map, MatchResult}
+use Rattle.std.proofs.Common.{◌≡◌, ◌&&◌, ℕ, Bool, true, false, not, List, [], ◌∷◌, ◌++◌, Option, Some, None, Result, Ok, Err, ap, refl, sym, ◌∙◌, subst, append_assoc, if◌then◌else◌, MatchResult}
 use Rattle.sb_base.specs.declared.interning.Name.{Name}
 use Rattle.sb_base.specs.declared.refusals.Place.{Place}
 use Rattle.sb_base.specs.declared.refusals.Refusal.{Refusal}
@@ -21,10 +21,8 @@ use Rattle.sb_macro.specs.Definition as spec
 use Rattle.sb_macro.specs.Definition.{listed, listed_as, listing_on, parameters, first_hash, parts, replacement_at, replacement_list, with_body, lists_params, definition, definition_of, IsFault}
 use Rattle.sb_macro.specs.Expansion.{is_word, is_open}
 use Rattle.sb_macro.specs.Halts.{refusal, stop_of}
-use Rattle.sb_macro.specs.Macros.{Macro, IsDistinct, macro_named, macro_of}
+use Rattle.sb_macro.specs.Macros.{Macro, macro_named, macro_of}
 use Rattle.sb_macro.specs.Marks.{mark_of}
-use Rattle.std.proofs.lemmas.List.{map-append}
-use Rattle.sb_macro.proofs.Tables.{distinct_added}
 
 word_kind : (kind : PpKind) → is_word kind ≡ true → kind ≡ Word
 word_kind Word is = refl
@@ -371,17 +369,9 @@ compared_line texts table line name rest parsed other result is =
     → HasCompared parsed other name.place result → MatchResult result (IsAddition texts table l) (λ halt. RefusesLine texts table l (stop_of halt)))
     is (compared_says texts table name rest parsed other result)
 
-module _ (texts : List (List ℕ)) (line : List PpToken) (kept : List Stored) where
-  pub nothing_added : IsAddition texts (map macro_of kept) line None → IsDefined texts (map macro_of kept) line (map macro_of kept)
-  nothing_added (m, reads, there) = defined_same texts (map macro_of kept) line m reads there
+module _ (texts : List (List ℕ)) (table : List Macro) (line : List PpToken) where
+  pub nothing_added : IsAddition texts table line None → IsDefined texts table line table
+  nothing_added (m, reads, there) = defined_same texts table line m reads there
 
-  pub one_added : (stored : Stored) (now : List Stored) → IsAddition texts (map macro_of kept) line (Some stored) → now ≡ kept ++ stored ∷ []
-      → IsDefined texts (map macro_of kept) line (map macro_of now)
-  one_added stored now (reads, new) is =
-      subst (λ l. IsDefined texts (map macro_of kept) line l) (sym (ap (map macro_of) is ∙ map-append macro_of kept (stored ∷ []))) (defined_new texts (map macro_of kept) line (macro_of stored) reads new).1
-
-  pub one_added_distinct : (stored : Stored) (now : List Stored) → IsAddition texts (map macro_of kept) line (Some stored) → now ≡ kept ++ stored ∷ [] → IsDistinct (map macro_of kept)
-      → IsDistinct (map macro_of now)
-  one_added_distinct stored now (reads, new) is distinct =
-      subst IsDistinct (sym (ap (map macro_of) is ∙ map-append macro_of kept (stored ∷ [])))
-      (distinct_added (macro_of stored) (map macro_of kept) distinct (defined_new texts (map macro_of kept) line (macro_of stored) reads new).0)
+  pub one_added : (stored : Stored) → IsAddition texts table line (Some stored) → (macro_named table stored.name ≡ None) × IsDefined texts table line (table ++ macro_of stored ∷ [])
+  one_added stored (reads, new) = defined_new texts table line (macro_of stored) reads new

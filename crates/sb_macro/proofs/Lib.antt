@@ -8,5 +8,6 @@ pub mod LinePlaces
 pub mod Lists
 pub mod OnlyAnswers
 pub mod Sameness
+pub mod Slots
 pub mod Splitting
 pub mod Tables

@@ -1,21 +1,30 @@
 -- Steps along lists.
-use Rattle.std.proofs.Common.{◌≡◌, ◌<◌, ◌+◌, ℕ, zero, suc, ◌⊎◌, inl, inr, drop, Bool, true, false, List, [], ◌∷◌, ◌++◌, Some, if◌then◌else◌, find, map, refl, sym, ap, ◌∙◌, length, take, get_or}
+use Rattle.std.proofs.Common.{◌≡◌, ◌<◌, ◌+◌, ℕ, zero, suc, ◌⊎◌, inl, inr, drop, List, [], ◌∷◌, ◌++◌, Some, refl, sym, ap, ◌∙◌, length, take, get_or, set, arith}
 use Rattle.std.specs.List.{flat_map, slice_get}
-use Rattle.std.specs.Option.{option_map}
 use Rattle.std.proofs.lemmas.List.{flat_map_more, take_more}
 
 module _ {X : Type 0} where
   pub flat_map_take : {A : Type 0} (f : X → List A) (xs : List X) (i : ℕ) (d : X) → i < length xs → flat_map f (take (i + 1) xs) ≡ flat_map f (take i xs) ++ f (get_or xs i d)
   flat_map_take f xs i d inside = ap (flat_map f) (take_more xs i d inside) ∙ sym (flat_map_more f [] (take i xs) (get_or xs i d))
 
-  pub find-map : {Y : Type 0} (p : Y → Bool) (f : X → Y) (xs : List X) → find p (map f xs) ≡ option_map f (find (λ x. p (f x)) xs)
-  find-map p f [] = refl
-  find-map p f (x ∷ xs) = at (p (f x)) (find-map p f xs)
-    where
-      at : (passes : Bool) → find p (map f xs) ≡ option_map f (find (λ x. p (f x)) xs)
-          → (if passes then Some (f x) else find p (map f xs)) ≡ option_map f (if passes then Some x else find (λ x. p (f x)) xs)
-      at true e = refl
-      at false e = e
+  -- a list that goes on keeps what it has
+  pub get_before : (xs ys : List X) (i : ℕ) (x : X) → slice_get xs i ≡ Some x → slice_get (xs ++ ys) i ≡ Some x
+  get_before [] ys i x got = absurd (cc)
+  get_before (y ∷ xs) ys zero x got = got
+  get_before (y ∷ xs) ys (suc i) x got = get_before xs ys i x got
+
+  -- what stands at the places of a list in which one was written
+  pub get_set : (xs : List X) (i : ℕ) (x : X) → i < length xs → slice_get (set xs i x) i ≡ Some x
+  get_set [] i x inside = absurd (omega (arith, inside))
+  get_set (y ∷ xs) zero x inside = refl
+  get_set (y ∷ xs) (suc i) x inside = get_set xs i x (omega (arith, inside))
+
+  pub get_set_other : (xs : List X) (i j : ℕ) (x y : X) → (i ≡ j → ⊥) → slice_get xs j ≡ Some y → slice_get (set xs i x) j ≡ Some y
+  get_set_other [] i j x y differ got = absurd (cc)
+  get_set_other (z ∷ xs) zero zero x y differ got = absurd (differ refl)
+  get_set_other (z ∷ xs) zero (suc j) x y differ got = got
+  get_set_other (z ∷ xs) (suc i) zero x y differ got = got
+  get_set_other (z ∷ xs) (suc i) (suc j) x y differ got = get_set_other xs i j x y (λ e. differ (ap suc e)) got
 
   -- the element at which what is left of a list begins, and what is left behind it
   pub drop_front : (xs : List X) (n : ℕ) (y : X) (ys : List X) → y ∷ ys ≡ drop n xs → (slice_get xs n ≡ Some y) × (ys ≡ drop (suc n) xs)

@@ -1,30 +1,18 @@
 -- The macros of a table.
-use Rattle.std.proofs.Common.{◌≡◌, Bool, true, false, not, List, [], ◌∷◌, ◌++◌, Some, None, ap, refl, if◌then◌else◌, arith, filter, map}
+use Rattle.std.proofs.Common.{◌≡◌, Bool, true, false, not, List, [], ◌∷◌, ◌++◌, Some, None, ap, refl, if◌then◌else◌, arith}
 use Rattle.std.proofs.lemmas.Bool.Decides.{nat_tests}
 use Rattle.sb_base.specs.declared.interning.Name.{Name}
-use Rattle.sb_macro.specs.declared.stored.Stored.{Stored}
-use Rattle.sb_macro.specs.Macros.{Macro, IsDistinct, macro_of, macro_named, same_name, without}
-
--- taking macros away as they are kept is taking them away from the table
-pub without_kept : (name : Name) (kept : List Stored) → map macro_of (filter (λ stored. not (same_name stored.name name)) kept) ≡ without (map macro_of kept) name
-without_kept name [] = refl
-without_kept name (m ∷ kept) = at (not (same_name m.name name)) (without_kept name kept)
-  where
-    at : (stays : Bool) → map macro_of (filter (λ stored. not (same_name stored.name name)) kept) ≡ without (map macro_of kept) name
-        → map macro_of (if stays then m ∷ filter (λ stored. not (same_name stored.name name)) kept else filter (λ stored. not (same_name stored.name name)) kept)
-        ≡ (if stays then macro_of m ∷ without (map macro_of kept) name else without (map macro_of kept) name)
-    at true e = ap (λ l. macro_of m ∷ l) e
-    at false e = e
+use Rattle.sb_macro.specs.Macros.{Macro, IsDistinct, macro_named, same_name, without}
 
 -- a name that no macro of a table has
-none_first : (m : Macro) (other : Name) (table : List Macro) → macro_named (m ∷ table) other ≡ None → (same_name m.name other ≡ false) × (macro_named table other ≡ None)
+pub none_first : (m : Macro) (other : Name) (table : List Macro) → macro_named (m ∷ table) other ≡ None → (same_name m.name other ≡ false) × (macro_named table other ≡ None)
 none_first m other table = at (same_name m.name other)
   where
     at : (is : Bool) → (if is then Some m else macro_named table other) ≡ None → (is ≡ false) × (macro_named table other ≡ None)
     at true e = absurd (cc)
     at false e = (refl, e)
 
-none_with : (m : Macro) (other : Name) (table : List Macro) → same_name m.name other ≡ false → macro_named table other ≡ None → macro_named (m ∷ table) other ≡ None
+pub none_with : (m : Macro) (other : Name) (table : List Macro) → same_name m.name other ≡ false → macro_named table other ≡ None → macro_named (m ∷ table) other ≡ None
 none_with m other table is none = rw is none
 
 none_without : (name other : Name) (table : List Macro) → macro_named table other ≡ None → macro_named (without table name) other ≡ None
@@ -36,6 +24,12 @@ none_without name other (m ∷ table) e =
         → macro_named (if stays then m ∷ without table name else without table name) other ≡ None
     at true is none = none_with m other (without table name) is none
     at false is none = none
+
+-- a table without a name that it does not have
+pub without_none : (name : Name) (table : List Macro) → macro_named table name ≡ None → without table name ≡ table
+without_none name [] none = refl
+without_none name (m ∷ table) none =
+    let first = none_first m name table none in rw first.0 (ap (λ l. m ∷ l) (without_none name table first.1))
 
 pub distinct_without : (name : Name) (table : List Macro) → IsDistinct table → IsDistinct (without table name)
 distinct_without name [] d = tt

@@ -12,5 +12,6 @@ pub mod Places
 pub mod Reading
 pub mod Replacement
 pub mod Replacing
+pub mod Slots
 pub mod Taking
 pub mod Tokens

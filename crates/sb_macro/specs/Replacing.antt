@@ -21,7 +21,7 @@ use Rattle.sb_macro.specs.Replacement.{replacement}
 use Rattle.sb_macro.specs.Tokens.{Tok, toks, lists}
 
 abbrev pub scope_of : Expander → Scope
-scope_of e = record { texts = e.names.now.texts; macros = map macro_of e.macros.now; room = e.room }
+scope_of e = record { texts = e.names.now.texts; macros = e.macros.now; room = e.room }
 
 -- what was taken is what the step says
 abbrev pub IsTaken : Macro → Step → VecDeque Marked Global → Taken → Type 0

@@ -8,12 +8,13 @@ ghost use Rattle.sb_macro.specs.Replacing.{scope_of, IsTaken, AreExpanded, AreRe
 ghost use Rattle.sb_macro.specs.Tokens.{fresh, tok_of, toks, lists, fulls_of};
 
 use crate::arguments::{arguments_for, needed_arguments, take_arguments};
+use crate::definitions::Definitions;
 use crate::ending::{End, Given};
 use crate::halt::{Halt, nowhere};
 use crate::marked::{Marked, Tokens, fresh, pieces};
 use crate::marks::{Mark, mark_of};
 use crate::replacing::{put_before, replacement};
-use crate::stored::{Stored, find, holds};
+use crate::stored::{Stored, holds};
 use sb_base::{Names, Place, PpKind};
 use sb_lex::PpToken;
 use std::alloc::{AllocError, Global};
@@ -57,7 +58,7 @@ pub struct Reached {
 #[derive(Clone, Copy)]
 pub struct Expander<'a> {
     pub names: &'a Names,
-    pub macros: &'a [Stored],
+    pub macros: &'a Definitions,
     pub room: u32,
 }
 
@@ -157,7 +158,7 @@ impl Expander<'_> {
         if holds(marked.hidden.as_slice(), marked.token.text) {
             return None;
         }
-        let stored = find(self.macros, marked.token.text)?;
+        let stored = self.macros.find(marked.token.text)?;
         if stored.params.is_none() || opens(self.names, rest) {
             Some(stored)
         } else {

@@ -10,6 +10,7 @@
 #![tactic(auto)]
 
 mod arguments;
+mod definitions;
 mod ending;
 mod expansion;
 mod halt;

@@ -1,7 +1,6 @@
 //! A macro as it is kept.
-ghost use Rattle.std.specs.Prelude.{◌≡◌, ◌↔◌, IsTrue, map, position, find as list_find};
-ghost use Rattle.std.specs.Option.{option_copied, option_map};
-ghost use Rattle.sb_macro.specs.Macros.{Macro, macro_of, params_of, same_name, holds, macro_named, param_of};
+ghost use Rattle.std.specs.Prelude.{◌≡◌, ◌↔◌, IsTrue, position};
+ghost use Rattle.sb_macro.specs.Macros.{Macro, macro_of, params_of, same_name, holds, param_of};
 
 use sb_base::{Name, PpKind};
 
@@ -48,20 +47,6 @@ fn same_params(params: &Option<Vec<Name>>, others: &Option<Vec<Name>>) -> bool
         (Some(_), None) => false,
         (None, Some(_)) => false,
     }
-}
-
-fn first_named(macros: &[Stored], name: Name) -> Option<&Stored>
-    ensures { option_copied result ≡ list_find (λ stored. same_name stored.name name) macros.now }
-{
-    macros.iter().find(|stored| stored.name.0 == name.0)
-}
-
-/// The macro of a name.
-pub fn find(macros: &[Stored], name: Name) -> Option<&Stored>
-    ensures { option_map macro_of (option_copied result)
-        ≡ macro_named (map macro_of macros.now) name }
-{
-    first_named(macros, name)
 }
 
 impl Stored {

@@ -11,11 +11,12 @@ ghost use Rattle.sb_macro.specs.Halts.{stop_of};
 ghost use Rattle.sb_macro.specs.Macros.{IsDistinct, macro_of, macro_named, same_name, without};
 ghost use Rattle.sb_macro.specs.Places.{StopsAmong};
 
+use crate::definitions::Definitions;
 use crate::ending::Given;
 use crate::expansion::Expander;
 use crate::halt::{Halt, nowhere, stop_of};
 use crate::lines::definition;
-use crate::stored::{Stored, find};
+use crate::stored::Stored;
 use sb_base::{Name, Names, Place, PpKind, Stop};
 use sb_lex::PpToken;
 use std::alloc::{AllocError, Global};
@@ -24,28 +25,28 @@ use std::marker::Model;
 /// The macros that stand, at most one of a name.
 #[derive(Drop)]
 pub struct Macros {
-    macros: Vec<Stored>,
+    macros: Definitions,
 }
 
 impl Model for Macros {
-    ghost use Rattle.std.specs.Prelude.{List, map};
-    ghost use Rattle.sb_macro.specs.Macros.{Macro, macro_of, IsDistinct};
+    ghost use Rattle.std.specs.Prelude.{List};
+    ghost use Rattle.sb_macro.specs.Macros.{Macro, IsDistinct};
 
     ghost Value = { List Macro };
 
-    ghost view = { λ m. map macro_of m.macros.items };
+    ghost view = { λ m. m.macros };
 
-    ghost invariant = { λ m. IsDistinct (map macro_of m.macros.items) };
+    ghost invariant = { λ m. IsDistinct m.macros };
 }
 
 /// The macro of the name that a line begins with.
-fn macro_at<'a>(macros: &'a [Stored], line: &[PpToken]) -> Option<&'a Stored>
+fn macro_at<'a>(macros: &'a Definitions, line: &[PpToken]) -> Option<&'a Stored>
     ensures { option_map macro_of (option_copied result)
-        ≡ macro_at (map macro_of macros.now) line.now }
+        ≡ macro_at macros.now line.now }
 {
     let name = line.first()?;
     if name.kind == PpKind::Word {
-        find(macros, name.text)
+        macros.find(name.text)
     } else {
         None
     }
@@ -55,11 +56,11 @@ fn macro_at<'a>(macros: &'a [Stored], line: &[PpToken]) -> Option<&'a Stored>
 fn addition(
     alloc: Global,
     names: &Names,
-    macros: &[Stored],
+    macros: &Definitions,
     line: &[PpToken],
 ) -> Result<Option<Stored>, Halt>
-    ensures { MatchResult result (IsAddition names.now.texts (map macro_of macros.now) line.now)
-        (λ halt. RefusesLine names.now.texts (map macro_of macros.now) line.now (stop_of halt)) }
+    ensures { MatchResult result (IsAddition names.now.texts macros.now line.now)
+        (λ halt. RefusesLine names.now.texts macros.now line.now (stop_of halt)) }
 {
     let Some((name, _)) = line.split_first() else {
         return Err(Halt::Refused(11, nowhere()));
@@ -95,20 +96,13 @@ fn addition_beside(
     }
 }
 
-fn take_away(macros: &mut Vec<Stored>, name: Name)
-    ensures { macros.new.items ≡ filter (λ stored. not (same_name stored.name name))
-        macros.old.items }
-{
-    macros.retain(|stored| stored.name.0 != name.0);
-}
-
 impl Macros {
     /// No macros.
     pub fn new(alloc: Global) -> Macros
         ensures empty { result ≡ [] }
     {
         Macros {
-            macros: Vec::new(alloc),
+            macros: Definitions::new(alloc),
         }
     }
 
@@ -140,10 +134,10 @@ impl Macros {
         ensures err { OnErr result (self.new ≡ self.old) }
         ensures distinct { IsDistinct self.new }
     {
-        let Some(stored) = addition(alloc, names, self.macros.as_slice(), line)? else {
+        let Some(stored) = addition(alloc, names, &self.macros, line)? else {
             return Ok(());
         };
-        self.macros.push(stored)?;
+        self.macros.add(stored)?;
         Ok(())
     }
 
@@ -152,14 +146,14 @@ impl Macros {
         ensures without { self.new ≡ without self.old name }
         ensures distinct { IsDistinct self.new }
     {
-        take_away(&mut self.macros, name);
+        self.macros.take_away(name);
     }
 
     /// Whether the name is that of a macro, as `defined` and `#ifdef` ask (C99 6.10.1).
     pub fn is_defined(&self, name: Name) -> bool
         ensures defined { result ≡ is_some (macro_named self.now name) }
     {
-        find(self.macros.as_slice(), name).is_some()
+        self.macros.find(name).is_some()
     }
 
     /// What the pieces of `list` expand to, `room` pieces at most (C99 6.10.3 paragraphs 10 to 12, 6.10.3.1, 6.10.3.4).
@@ -194,7 +188,7 @@ impl Macros {
     {
         let expander = Expander {
             names,
-            macros: self.macros.as_slice(),
+            macros: &self.macros,
             room,
         };
         match expander.expand(alloc, list) {
@@ -225,7 +219,7 @@ impl Macros {
     {
         let expander = Expander {
             names,
-            macros: self.macros.as_slice(),
+            macros: &self.macros,
             room,
         };
         expander.given(alloc, list)

@@ -1,4 +1,4 @@
-use Rattle.std.proofs.Common.{◌≡◌, [], Some, map, sym, refl}
+use Rattle.std.proofs.Common.{◌≡◌, [], Some, sym, refl}
 use Rattle.std.proofs.lemmas.List.{nil_from_length}
 use Rattle.sb_macro.specs.Defines.{malformed, macro_at}
 use Rattle.sb_macro.specs.Macros.{macro_of}
@@ -13,7 +13,7 @@ returns-in_default c =
 pub returns-in-Some-macro_at : goal.returns-in-Some-macro_at
 returns-in-Some-macro_at c =
     let texts = c.args.names.now.texts in
-    let table = map macro_of c.args.macros.now in
+    let table = c.args.macros.now in
     let there : Some (macro_of c.in-Some-macro_at.other.now) ≡ macro_at table c.args.line.now = c.in-Some-macro_at.ensures in
     compared_line texts table c.args.line.now c.in-Some.name.now _ c.definition-parsed.result (macro_of c.in-Some-macro_at.other.now) c.addition_beside.result
     (sym c.in-Some.ensures.cases.0) c.definition-parsed.ensures (sym there) c.addition_beside.ensures

@@ -4,10 +4,10 @@ use Rattle.sb_macro.proofs.OnlyAnswers.{only_answer, stops_so}
 use Rattle.sb_macro.proofs.table.Macros.expand.Goals as goal
 
 pub returns-in-Ok-clause-expanded : goal.returns-in-Ok-clause-expanded
-returns-in-Ok-clause-expanded c = rw (← c.self.view_is, ← c.as_slice.ensures.value) c.in-Ok.ensures
+returns-in-Ok-clause-expanded c = rw (← c.self.view_is) c.in-Ok.ensures
 
 pub returns-in-Err-clause-expanded : goal.returns-in-Err-clause-expanded
-returns-in-Err-clause-expanded c = rw (c.stop_of.ensures, ← c.self.view_is, ← c.as_slice.ensures.value) (stops_so _ c.args.list.now c.in-Err.halt c.in-Err.ensures)
+returns-in-Err-clause-expanded c = rw (c.stop_of.ensures, ← c.self.view_is) (stops_so _ c.args.list.now c.in-Err.halt c.in-Err.ensures)
 
 pub returns-in-Ok-clause-among : goal.returns-in-Ok-clause-among
 returns-in-Ok-clause-among c = expanded_among _ c.args.list.now c.in-Ok.out.items (returns-in-Ok-clause-expanded c)
