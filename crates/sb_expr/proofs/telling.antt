@@ -1,4 +1,9 @@
+pub mod AnyDepth
 pub mod EachDepth
 pub mod Expressions
+pub mod Functions
+pub mod Literals
+pub mod Longer
+pub mod Loops
 pub mod Reasons
 pub mod TypeNames

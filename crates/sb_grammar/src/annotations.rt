@@ -59,8 +59,8 @@ pub fn notes(
         (may_stand (lexicon names.now.texts scope.now.types.items) bearer.Any))
         (λ ns v. ns ≡ plain_notes v.items) at.old.tokens.now at.old.next at.new.next result }
     ensures reason { HasNoteReason (lexicon names.now.texts scope.now.types.items) at.old.left
-        (may_stand (lexicon names.now.texts scope.now.types.items) bearer.Any) at.old.tokens.now
-        at.old.next result }
+        (may_stand (lexicon names.now.texts scope.now.types.items) bearer.Any)
+        (λ ns v. ns ≡ plain_notes v.items) at.old.tokens.now at.old.next at.new.next result }
     ensures one { HasOneTree (AreNotes (lexicon names.now.texts scope.now.types.items)
         (may_stand (lexicon names.now.texts scope.now.types.items) bearer.Any)) }
     ensures tokens { at.new.tokens ≡ at.old.tokens }

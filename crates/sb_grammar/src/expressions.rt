@@ -6,7 +6,7 @@ ghost use Rattle.sb_expr.specs.Reads.{FitsExpr, FitsType, IsExprRead, IsTypeRead
 ghost use Rattle.sb_lexicon.specs.Outcomes.{lexicon, IsLongestRead};
 ghost use Rattle.sb_expr.specs.Expression.{Sequence, IsExpr, IsType};
 ghost use Rattle.sb_operand.specs.Pieces.{type_of};
-ghost use Rattle.sb_lexicon.specs.Reasons.{HasReason};
+ghost use Rattle.sb_expr.specs.Reasons.{HasExprReason, HasTypeReason};
 ghost use Rattle.sb_expr.specs.Calls.{MakesType};
 ghost use Rattle.sb_tree.specs.Plain.{plain_expr, plain_type};
 
@@ -53,9 +53,8 @@ pub fn expr(alloc: Global, names: &Names, scope: &Scope, at: &mut Cursor) -> Res
     ensures longest { IsLongestRead
         (FitsExpr (lexicon names.now.texts scope.now.types.items) at.old.left Sequence)
         (λ a e. a ≡ plain_expr e) at.old.tokens.now at.old.next at.new.next result }
-    ensures reason { HasReason (lexicon names.now.texts scope.now.types.items)
-        (IsExpr (lexicon names.now.texts scope.now.types.items) Sequence) at.old.tokens.now
-        at.old.next result }
+    ensures reason { HasExprReason (lexicon names.now.texts scope.now.types.items)
+        at.old.tokens.now at.old.next at.old.left at.new.next result }
     ensures one { HasOneTree (IsExpr (lexicon names.now.texts scope.now.types.items) Sequence) }
     ensures tokens { at.new.tokens ≡ at.old.tokens }
     ensures left { at.new.left ≡ at.old.left }
@@ -115,9 +114,8 @@ pub fn type_name(
     ensures longest { IsLongestRead
         (FitsType (lexicon names.now.texts scope.now.types.items) at.old.left)
         (λ d t. type_of d ≡ plain_type t) at.old.tokens.now at.old.next at.new.next result }
-    ensures reason { HasReason (lexicon names.now.texts scope.now.types.items)
-        (IsType (lexicon names.now.texts scope.now.types.items)) at.old.tokens.now at.old.next
-        result }
+    ensures reason { HasTypeReason (lexicon names.now.texts scope.now.types.items)
+        at.old.tokens.now at.old.next at.old.left at.new.next result }
     ensures one { HasOneTree (IsType (lexicon names.now.texts scope.now.types.items)) }
     ensures tokens { at.new.tokens ≡ at.old.tokens }
     ensures left { at.new.left ≡ at.old.left }

@@ -5,3 +5,4 @@ pub mod Wider
 pub mod Grounds
 pub mod Loops
 pub mod laws
+pub mod Spelled

@@ -1,4 +1,5 @@
 pub mod Lexicon
+pub mod Annotations
 pub mod Words
 pub mod Tokens
 pub mod Specifiers

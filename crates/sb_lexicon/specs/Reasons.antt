@@ -4,10 +4,12 @@ use Rattle.sb_base.specs.declared.refusals.Refusal.{Refusal}
 use Rattle.sb_base.specs.declared.refusals.Stop.{Stop}
 use Rattle.sb_base.specs.declared.refusals.Stop.TheVariants.{Refused, Memory}
 use Rattle.sb_base.specs.declared.tokens.Token.{Token}
-use Rattle.sb_parse.specs.Read.{CanBegin}
+use Rattle.sb_parse.specs.Parser.{Parser, stop, at_next}
+use Rattle.sb_parse.specs.Read.{CanBegin, IsLongest}
 use Rattle.sb_sign.specs.declared.sign.Keyword.TheVariants as keyword
+use Rattle.sb_lexicon.specs.Annotations.{is_listed}
 use Rattle.sb_lexicon.specs.Lexicon.{Lexicon, is_keyword, begins_type}
-use Rattle.sb_lexicon.specs.Outcomes.{IsStop}
+use Rattle.sb_lexicon.specs.Outcomes.{IsStop, IsRefusedThere}
 use Rattle.sb_lexicon.specs.Tokens.{unexpected, too_deep, lacks, is_open, is_close, is_open_brace}
 
 -- a token with which a text goes on that has a feature that the profile leaves out: floating types, unions, pointers to functions, `volatile`, complex types, compound literals
@@ -15,7 +17,7 @@ abbrev pub shows : Lexicon → ℕ → Token → Bool
 shows w feature t =
     if nat_eq feature 1 then is_keyword w keyword.Float t || is_keyword w keyword.Double t
     else (if nat_eq feature 2 then is_keyword w keyword.Union t
-    else (if nat_eq feature 4 then is_open w t || (is_close w t || (begins_type w t || is_keyword w keyword.Register t))
+    else (if nat_eq feature 4 then is_open w t || (is_close w t || (begins_type w t || (is_keyword w keyword.Register t || (is_keyword w keyword.Inline t || is_listed w t))))
     else (if nat_eq feature 7 then is_keyword w keyword.Volatile t
     else (if nat_eq feature 8 then is_keyword w keyword.Complex t || is_keyword w keyword.Imaginary t
     else (if nat_eq feature 16 then is_open_brace w t
@@ -41,15 +43,21 @@ pub record IsRefusedFor {A : Type 0} (w : Lexicon) (Is : List Token → A → Ty
   pub good : CanBegin Is front
   pub reason : IsReason w Is front bad n
 
--- the refusal of a list of tokens whose last part `ts` is read
-pub record IsRefusedBecause {A : Type 0} (w : Lexicon) (Is : List Token → A → Type 0) (tokens ts : List Token) (r : Refusal) : Type 0 where
+-- The refusal of a list of tokens whose last part `ts` is read: all is said of one number and one token. `p` reads the texts that fit; those of any depth are texts by `Is`.
+pub record IsRefusedBecause {A : Type 0} (w : Lexicon) (p : Parser Token A) (Fits Is : List Token → A → Type 0) (spares : Token → Bool) (tokens ts : List Token) (r : Refusal) : Type 0 where
   pub number : ℕ
   pub left : ℕ
   pub is : IsStop tokens number left r
+  pub stops : p ts ≡ stop number left
+  pub refused : IsRefusedThere Fits ts left
   pub because : IsRefusedFor w Is ts number left
+  -- what stands before a 31 is no text of any depth, wherever the 31 stands, unless the token there is spared
+  pub unfinished : number ≡ unexpected → at_next spares because.bad ≡ false → (a : A) → Is because.front a → ⊥
 
--- a refusal that a call answers has a reason
-abbrev pub HasReason : {A E : Type 0} → Lexicon → (List Token → A → Type 0) → List Token → ℕ → Result E Stop → Type 0
-HasReason w Is tokens next (Ok e) = Unit {0}
-HasReason w Is tokens next (Err (Refused r)) = IsRefusedBecause w Is tokens (drop next tokens) r
-HasReason w Is tokens next (Err Memory) = Unit {0}
+-- What a call says of texts of any depth: its answer is the longest of all, and behind it no token shows a feature that the profile leaves out (`lacking`); a refusal has a reason.
+-- `gives a e`: e is how the call answers a.
+abbrev pub HasReason : {A E : Type 0} → Lexicon → Parser Token A → (Fits Is : List Token → A → Type 0) → (spares : Token → Bool) → (lacking : A → Token → Bool) → (A → E → Type 0) → List Token → (next now : ℕ)
+    → Result E Stop → Type 0
+HasReason w p Fits Is spares lacking gives tokens next now (Ok e) = (a : _) × IsLongest Is (drop next tokens) a (drop now tokens) × (at_next (lacking a) (drop now tokens) ≡ false) × gives a e
+HasReason w p Fits Is spares lacking gives tokens next now (Err (Refused r)) = IsRefusedBecause w p Fits Is spares tokens (drop next tokens) r
+HasReason w p Fits Is spares lacking gives tokens next now (Err Memory) = Unit {0}

@@ -2,6 +2,7 @@
 //! 6.7.7), as operators (6.5) and as specifiers of a type name (6.7.2, 6.7.3); and why readers stop.
 #![tactic(auto)]
 
+mod annotations;
 mod lexicon;
 mod operators;
 mod reading;
@@ -9,6 +10,7 @@ mod specifiers;
 mod stops;
 mod words;
 
+pub use annotations::{arguments_of, begins_note, is_listed, is_unlisted, word_of};
 pub use lexicon::{
     Lexicon, begins_type, is_keyword, is_keyword_next, is_mark, is_mark_next, is_qualifier,
     is_qualifier_next, is_type_name, is_type_name_next, is_type_next, is_type_second, is_type_word,

@@ -3,6 +3,7 @@ use Rattle.std.specs.Prelude.{ℕ, Bool, true, ◌&&◌, ◌||◌, List, [], if�
 use Rattle.sb_base.specs.declared.tokens.Token.{Token}
 use Rattle.sb_parse.specs.Parser.{Parser, ◌>>=◌, pure, refuse, token, choose, guard}
 use Rattle.sb_sign.specs.declared.sign.Keyword.TheVariants as keyword
+use Rattle.sb_lexicon.specs.Annotations.{is_listed}
 use Rattle.sb_lexicon.specs.Lexicon.{Lexicon, is_keyword, begins_type}
 use Rattle.sb_operand.specs.Pieces.{Piece, points}
 use Rattle.sb_lexicon.specs.Tokens.{unexpected, too_deep, volatile, is_zero, is_open, is_close, is_open_bracket, is_star}
@@ -15,7 +16,7 @@ begins_abstract w t = is_star w t || (is_open w t || is_open_bracket w t)
 
 -- with this token only a function type goes on behind a parenthesis that has no declarator
 abbrev pub begins_parameters : Lexicon → Token → Bool
-begins_parameters w t = is_close w t || (begins_type w t || is_keyword w keyword.Register t)
+begins_parameters w t = is_close w t || (begins_type w t || (is_keyword w keyword.Register t || (is_keyword w keyword.Inline t || is_listed w t)))
 
 -- behind these pieces an opening parenthesis makes a pointer to a function
 abbrev pub calls : Lexicon → List Piece → Token → Bool

@@ -11,8 +11,8 @@ ghost use Rattle.sb_lexicon.specs.Tokens as lexeme;
 use crate::pieces::Piece;
 use sb_base::{Place, Token};
 use sb_lexicon::{
-    Feature, Lexicon, Read, ReadFault, begins_type, is_keyword, is_keyword_next, is_mark,
-    is_qualifier_next, take_keyword,
+    Feature, Lexicon, Read, ReadFault, begins_type, is_keyword, is_keyword_next, is_listed,
+    is_mark, is_qualifier_next, take_keyword,
 };
 use sb_sign::{Keyword, Mark};
 use std::alloc::{AllocError, Global};
@@ -88,6 +88,8 @@ pub fn is_parameter_next(lexicon: &Lexicon, tokens: &[Token]) -> bool
             is_mark(lexicon, Mark::CloseParenthesis, token)
                 || begins_type(lexicon, token)
                 || is_keyword(lexicon, Keyword::Register, token)
+                || is_keyword(lexicon, Keyword::Inline, token)
+                || is_listed(lexicon, token)
         }
         None => false,
     }

@@ -35,7 +35,7 @@ list_deep (m ∷ ns) n left h k =
     let one : depth_of_note m ≤ left = omega arith in
     max-le one (list_deep ns n left (omega arith) k)
 
-deep_list : (ns : List NoteTree) (n : NoteTree) (left : ℕ) → depth_of_notes (note_list (ns ++ (n ∷ []))) ≤ left → (depth_of_notes (note_list ns) ≤ left) × (depth_of_note n ≤ left)
+pub deep_list : (ns : List NoteTree) (n : NoteTree) (left : ℕ) → depth_of_notes (note_list (ns ++ (n ∷ []))) ≤ left → (depth_of_notes (note_list ns) ≤ left) × (depth_of_note n ≤ left)
 deep_list [] n left h = let first : depth_of_note n ≤ max (depth_of_note n) 0 = le-max_left (depth_of_note n) 0 in (omega arith, omega arith)
 deep_list (m ∷ ns) n left h =
     let first : depth_of_note m ≤ max (depth_of_note m) (depth_of_notes (note_list (ns ++ (n ∷ [])))) = le-max_left (depth_of_note m) (depth_of_notes (note_list (ns ++ (n ∷ [])))) in
@@ -45,7 +45,7 @@ deep_list (m ∷ ns) n left h =
     (max-le one both.0, both.1)
 
 -- what goes on from a list is what goes on from its last
-at_end_last : {T A : Type 0} (goes_on : A → T → Bool) (ns : List A) (n : A) (t : T) → at_end goes_on (ns ++ (n ∷ [])) t ≡ goes_on n t
+pub at_end_last : {T A : Type 0} (goes_on : A → T → Bool) (ns : List A) (n : A) (t : T) → at_end goes_on (ns ++ (n ∷ [])) t ≡ goes_on n t
 at_end_last goes_on [] n t = refl
 at_end_last goes_on (a ∷ []) n t = refl
 at_end_last goes_on (a ∷ (b ∷ rest)) n t = at_end_last goes_on (b ∷ rest) n t
@@ -102,7 +102,7 @@ module _ (w : Lexicon) where
         let next : FitsNotes w left may (xs ++ ys) (ms ++ (m.value ∷ [])) = (more_notes xs ys ms m.value f.0 m.is.0, list_deep ms m.value left f.1 m.is.1) in
         subst (λ z. FitsNotes w left may z os) (append_assoc xs ys zs) (add_all ns os (xs ++ ys) zs (subst (FitsNotes w left may (xs ++ ys)) (sym m.same) next) later)
 
-    in_turns : (ts : List Token) (ns : List NoteTree) → AreNotes w may ts ns → depth_of_notes (note_list ns) ≤ left → Turns OneMore [] ts ns
+    pub in_turns : (ts : List Token) (ns : List NoteTree) → AreNotes w may ts ns → depth_of_notes (note_list ns) ≤ left → Turns OneMore [] ts ns
     in_turns _ _ no_notes le = over []
     in_turns _ _ (more_notes xs ys ns n are is) le =
         let both = deep_list ns n left le in

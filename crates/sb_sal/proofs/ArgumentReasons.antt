@@ -14,8 +14,8 @@ use Rattle.sb_expr.specs.Readers.{expr_reader}
 use Rattle.sb_lexicon.specs.Tokens.{unexpected, too_deep, is_open, is_close, is_comma, is_star, begins_expr, bad_arguments, bad_kind}
 use Rattle.sb_expr.proofs.telling.Reasons.{expr_reason}
 use Rattle.sb_parse.proofs.Ways.{or_first, or_second}
-use Rattle.sb_sal.specs.declared.spelling.Arguments.{Arguments}
-use Rattle.sb_sal.specs.declared.spelling.Arguments.TheVariants as arguments
+use Rattle.sb_sign.specs.declared.spelling.Arguments.{Arguments}
+use Rattle.sb_sign.specs.declared.spelling.Arguments.TheVariants as arguments
 use Rattle.sb_sal.specs.Notes.{inside, place_name, anywhere, IsLocation, is_result, is_parameter, is_target, is_field}
 use Rattle.sb_sal.specs.Readers.{is_arrow, is_return, is_place_name, continues, named, member_of, wrong, ending, result, field, parameter, target, location, value, memory, separator, closing, inner, two}
 use Rattle.sb_sal.specs.Reasons.{Expected, AValue, ALocation, TheMemory, ANote, AComma, AClose, first_of, second_of, IsFirst, Awaits, first, comma, second, shows_other, GoesElsewhere, from_location, from_star, from_memory, IsBadArguments, takes_nothing, takes_something, shown_by, IsBadKind, IsNoteReason, no_annotation, no_place, other_arguments, other_kind, in_expression, no_text, deeper}

@@ -13,8 +13,8 @@ use Rattle.sb_lexicon.specs.Lexicon.{Lexicon, is_among, name_of, is_type_name}
 use Rattle.sb_lexicon.specs.Outcomes.{nowhere}
 use Rattle.sb_sal.specs.declared.bearer.Bearer.{Bearer}
 use Rattle.sb_sal.specs.declared.bearer.Bearer.TheVariants as bearer
-use Rattle.sb_sal.specs.declared.spelling.Arguments.{Arguments}
-use Rattle.sb_sal.specs.declared.spelling.Arguments.TheVariants as arguments
+use Rattle.sb_sign.specs.declared.spelling.Arguments.{Arguments}
+use Rattle.sb_sign.specs.declared.spelling.Arguments.TheVariants as arguments
 use Rattle.sb_sal.specs.Notes.{anywhere}
 use Rattle.sb_sal.specs.Readers.{is_nothing, is_bare}
 use Rattle.sb_sal.specs.Reads.{HasBare, IsFillable}

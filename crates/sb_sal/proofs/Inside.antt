@@ -14,8 +14,8 @@ use Rattle.sb_lexicon.specs.Tokens.{unexpected, is_open, is_close, is_comma, bad
 use Rattle.sb_expr.proofs.tokens.More.{more}
 use Rattle.sb_parse.proofs.Ways.{only_else}
 use Rattle.sb_lexicon.proofs.Lexemes.{close_token, close_token_is}
-use Rattle.sb_sal.specs.declared.spelling.Arguments.{Arguments}
-use Rattle.sb_sal.specs.declared.spelling.Arguments.TheVariants as arguments
+use Rattle.sb_sign.specs.declared.spelling.Arguments.{Arguments}
+use Rattle.sb_sign.specs.declared.spelling.Arguments.TheVariants as arguments
 use Rattle.sb_sal.specs.Notes.{anywhere, is_bare, AreArguments, one_size, two_sizes, a_condition, memory, a_note, guarded, located}
 use Rattle.sb_sal.specs.Readers.{wrong, separator, closing, one, two, inner, arguments_by, continues}
 use Rattle.sb_sal.specs.Reads.{FitsNote, HasBare}

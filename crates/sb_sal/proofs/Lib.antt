@@ -9,7 +9,6 @@ pub mod ArgumentReasons
 pub mod NoteReasons
 pub mod Filled
 pub mod Tying
-pub mod Words
 pub mod Lists
 pub mod Depths
 pub mod Leaving
@@ -20,3 +19,4 @@ pub mod ExprDeepening
 pub mod Lowered
 pub mod NoteDeepening
 pub mod SomeDepth
+pub mod Whole

@@ -7,8 +7,8 @@ use Rattle.sb_tree.specs.Trees as tree
 use Rattle.sb_tree.specs.Trees.{NoteTree, ArgTree, ExprArg, NoteArg}
 use Rattle.sb_lexicon.specs.Lexicon.{Lexicon}
 use Rattle.sb_lexicon.specs.Tokens.{unexpected, too_deep, unknown, misplaced, is_zero, is_open}
-use Rattle.sb_sal.specs.declared.spelling.Arguments.{Arguments}
-use Rattle.sb_sal.specs.declared.spelling.Arguments.TheVariants as arguments
+use Rattle.sb_sign.specs.declared.spelling.Arguments.{Arguments}
+use Rattle.sb_sign.specs.declared.spelling.Arguments.TheVariants as arguments
 use Rattle.sb_sal.specs.Notes.{anywhere}
 use Rattle.sb_sal.specs.Readers.{Head, head_of, is_bare, value, memory, location, separator, closing, wrong, inner, one, two, arguments_by, in_parentheses, lacking, applied, bare, note, note_reader, next_note, notes_reader}
 use Rattle.sb_sal.specs.Spellings.{begins_note, is_listed, is_unlisted}

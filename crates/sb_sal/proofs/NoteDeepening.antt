@@ -14,8 +14,8 @@ use Rattle.sb_expr.specs.Readers.{expr_reader}
 use Rattle.sb_lexicon.specs.Tokens.{unexpected, too_deep, unknown, misplaced, bad_arguments, bad_kind, is_zero, is_open, is_close, is_comma, is_star, begins_expr}
 use Rattle.sb_lexicon.proofs.Wider.{room_wider}
 use Rattle.sb_parse.proofs.Ways.{and_first, and_second}
-use Rattle.sb_sal.specs.declared.spelling.Arguments.{Arguments}
-use Rattle.sb_sal.specs.declared.spelling.Arguments.TheVariants as arguments
+use Rattle.sb_sign.specs.declared.spelling.Arguments.{Arguments}
+use Rattle.sb_sign.specs.declared.spelling.Arguments.TheVariants as arguments
 use Rattle.sb_sal.specs.Notes.{inside, anywhere}
 use Rattle.sb_sal.specs.Readers.{Head, head_of, named, member_of, continues, is_arrow, is_bare, is_return, is_place_name, ending, result, field, parameter, target, location, value, memory, separator, closing, wrong}
 use Rattle.sb_sal.specs.Readers.{inner, one, two, arguments_by, in_parentheses, lacking, applied, bare, note, note_reader, next_note, notes_reader}

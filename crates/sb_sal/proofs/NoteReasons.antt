@@ -11,8 +11,8 @@ use Rattle.sb_lexicon.specs.Lexicon.{Lexicon}
 use Rattle.sb_lexicon.specs.Tokens.{unexpected, too_deep, is_zero, is_open, is_star, bad_arguments, unknown, misplaced}
 use Rattle.sb_lexicon.proofs.Depths.{room_is}
 use Rattle.sb_parse.proofs.Ways.{and_first, and_second, or_first}
-use Rattle.sb_sal.specs.declared.spelling.Arguments.{Arguments}
-use Rattle.sb_sal.specs.declared.spelling.Arguments.TheVariants as arguments
+use Rattle.sb_sign.specs.declared.spelling.Arguments.{Arguments}
+use Rattle.sb_sign.specs.declared.spelling.Arguments.TheVariants as arguments
 use Rattle.sb_sal.specs.Notes.{AreNotes, anywhere}
 use Rattle.sb_sal.specs.Readers.{is_nothing, is_bare, is_arrow, Head, head_of, continues, value, memory, location, inner, one, closing, arguments_by, in_parentheses, lacking, applied, bare, note, note_reader, next_note, notes_reader}
 use Rattle.sb_sal.specs.Reads.{FitsNote, IsFillable}
@@ -29,6 +29,7 @@ use Rattle.sb_sal.proofs.Annotations.{note_at, next_head, more_notes_behind, law
 use Rattle.sb_sal.proofs.NoteWider.{notes_wider}
 use Rattle.sb_sal.proofs.EveryDepth.{at_every_depth, at_end}
 use Rattle.sb_sal.proofs.SomeDepth.{at_some_depth}
+use Rattle.sb_sal.proofs.Whole.{unfinished}
 use Rattle.sb_sal.proofs.NoteDeepening.{notes_deepen}
 use Rattle.sb_sal.proofs.ArgumentReasons.{further, deeper_by, wherever, Within, closing_why, value_why, inner_why, FirstRead, two_why, location_why, memory_why}
 
@@ -264,6 +265,7 @@ module _ (w : Lexicon) where
               (λ n m some le. notes_wider w n m le may) left some ts n k e not_deep s.front s.bad s.split s.left_is;
           at_end = λ not_deep. at_end (AreNotes w may) (λ ns. depth_of_notes (note_list ns)) (more_notes_behind w) 0 (λ left. notes_reader w left may) (λ left some. lawful_notes w left may F)
               (λ n m some le. notes_wider w n m le may) left some ts n k e not_deep s.front s.bad s.split;
+          unfinished = λ number. unfinished w may F left ts k (e ∙ ap (λ z. stop z k) number) s.front s.bad s.split s.left_is;
           at_some_depth = λ deep. at_some_depth (AreNotes w may) (λ ns. depth_of_notes (note_list ns)) (more_notes_behind w) 0 (λ left. notes_reader w left may) (λ left some. lawful_notes w left may F) left some (notes_deepen w may left)
               ts k (e ∙ ap (λ z. stop z k) deep) s.front s.bad s.split s.left_is;
         }

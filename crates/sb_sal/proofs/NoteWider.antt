@@ -13,8 +13,8 @@ use Rattle.sb_lexicon.specs.Tokens.{unexpected, too_deep, unknown, misplaced, is
 use Rattle.sb_parse.proofs.Ways.{and_first}
 use Rattle.sb_lexicon.proofs.Wider.{Held, short, same, Wider, alike, one_by_one, behind, before, guarding, choosing, turning, room_wider}
 use Rattle.sb_expr.proofs.widening.EachDepth.{parts_wider}
-use Rattle.sb_sal.specs.declared.spelling.Arguments.{Arguments}
-use Rattle.sb_sal.specs.declared.spelling.Arguments.TheVariants as arguments
+use Rattle.sb_sign.specs.declared.spelling.Arguments.{Arguments}
+use Rattle.sb_sign.specs.declared.spelling.Arguments.TheVariants as arguments
 use Rattle.sb_sal.specs.Notes.{inside, anywhere}
 use Rattle.sb_sal.specs.Readers.{Head, head_of, named, is_arrow, is_bare, is_return, is_place_name, ending, result, field, parameter, target, location, value, memory, separator, closing, wrong}
 use Rattle.sb_sal.specs.Readers.{inner, one, two, arguments_by, in_parentheses, lacking, applied, bare, note, note_reader, next_note, notes_reader}

@@ -14,8 +14,8 @@ use Rattle.sb_lexicon.specs.Tokens.{unexpected, too_deep, is_zero, is_open, is_c
 use Rattle.sb_lexicon.proofs.Depths.{some_depth, some_room, room_is}
 use Rattle.sb_parse.proofs.Ways.{and_first, and_second, goes_on_where, Refuses, one_refuses, both_refuse, only_else, halted}
 use Rattle.sb_lexicon.proofs.Lexemes.{close_token, close_token_is}
-use Rattle.sb_sal.specs.declared.spelling.Arguments.{Arguments}
-use Rattle.sb_sal.specs.declared.spelling.Arguments.TheVariants as arguments
+use Rattle.sb_sign.specs.declared.spelling.Arguments.{Arguments}
+use Rattle.sb_sign.specs.declared.spelling.Arguments.TheVariants as arguments
 use Rattle.sb_sal.specs.Notes.{anywhere, IsNote, is_bare, has_arguments, AreArguments, one_size, two_sizes, a_condition, memory, a_note, guarded, located}
 use Rattle.sb_sal.specs.Readers as reader
 use Rattle.sb_sal.specs.Readers.{is_nothing, Head, head_of, arguments_by, in_parentheses, lacking, applied, bare, note}
@@ -67,12 +67,12 @@ some_arg (ExprArg e) = some_depth e
 some_arg (NoteArg n) = some_note n
 
 -- an annotation has an argument
-record HasArgument (args : List ArgTree) : Type 0 where
-  first : ArgTree
-  rest : List ArgTree
-  split : args ≡ first ∷ rest
+pub record HasArgument (args : List ArgTree) : Type 0 where
+  pub first : ArgTree
+  pub rest : List ArgTree
+  pub split : args ≡ first ∷ rest
 
-has_argument : (w : Lexicon) (may : Token → Bool) (a : Arguments) (ts : List Token) (args : List ArgTree) → AreArguments w may a ts args → HasArgument args
+pub has_argument : (w : Lexicon) (may : Token → Bool) (a : Arguments) (ts : List Token) (args : List ArgTree) → AreArguments w may a ts args → HasArgument args
 has_argument w _ _ _ _ (one_size may ts a is) = record { first = a; rest = []; split = refl }
 has_argument w _ _ _ _ (two_sizes may xs ys c a b h is also) = record { first = a; rest = b ∷ []; split = refl }
 has_argument w _ _ _ _ (a_condition may ts a is) = record { first = a; rest = []; split = refl }

@@ -18,8 +18,8 @@ use Rattle.sb_lexicon.specs.Tokens.{is_open, is_close, is_comma, is_star}
 use Rattle.sb_lexicon.specs.Outcomes.{nowhere}
 use Rattle.sb_parse.proofs.Ways.{and_fails}
 use Rattle.sb_lexicon.proofs.Lexemes.{mark_is, mark_alone, name_no_keyword, mark_no_keyword}
-use Rattle.sb_sal.specs.declared.spelling.Arguments.{Arguments}
-use Rattle.sb_sal.specs.declared.spelling.Arguments.TheVariants as arguments
+use Rattle.sb_sign.specs.declared.spelling.Arguments.{Arguments}
+use Rattle.sb_sign.specs.declared.spelling.Arguments.TheVariants as arguments
 use Rattle.sb_sal.specs.Notes.{place_name}
 use Rattle.sb_sal.specs.Readers.{is_nothing, is_bare, is_arrow, is_return, is_place_name, continues, named}
 use Rattle.sb_sal.specs.Spellings.{begins_note, arguments_in, arguments_of, is_listed, looks_like_note, word_of}

@@ -1,11 +1,12 @@
 -- What a call answers that reads annotations, in the grammar's words.
-use Rattle.std.proofs.Common.{◌≡◌, ℕ, List, drop, Result, Ok, Err, inl}
+use Rattle.std.proofs.Common.{◌≡◌, ℕ, List, drop, Result, Ok, Err, inl, false}
 use Rattle.std.specs.declared.alloc.Global.{Global}
 use Rattle.std.specs.declared.vec.Vec.{Vec}
 use Rattle.sb_base.specs.declared.refusals.Stop.{Stop}
 use Rattle.sb_base.specs.declared.refusals.Stop.TheVariants.{Refused, Memory}
 use Rattle.sb_base.specs.declared.tokens.Token.{Token}
-use Rattle.sb_parse.specs.Read.{HasOneTree}
+use Rattle.sb_parse.specs.Parser.{at_next}
+use Rattle.sb_parse.specs.Read.{HasOneTree, IsLongest}
 use Rattle.sb_tree.specs.declared.syntax.Note.{Note}
 use Rattle.sb_tree.specs.Plain.{plain_notes}
 use Rattle.sb_lexicon.specs.Lexicon.{Lexicon}
@@ -14,12 +15,13 @@ use Rattle.sb_sal.specs.declared.bearer.Bearer.{Bearer}
 use Rattle.sb_sal.specs.declared.bearer.Bearer.TheVariants as bearer
 use Rattle.sb_sal.specs.Notes.{AreNotes}
 use Rattle.sb_sal.specs.Reads.{FitsNotes, IsNotesRead}
-use Rattle.sb_sal.specs.Reasons.{HasNoteReason}
+use Rattle.sb_sal.specs.Reasons.{shows_more, HasNoteReason}
 use Rattle.sb_sal.specs.Spellings.{may_stand}
 use Rattle.sb_sal.proofs.Annotations.{notes_longest, notes_refused}
 use Rattle.sb_sal.proofs.Filled.{filled}
 use Rattle.sb_sal.proofs.NoteReasons.{notes_reason}
 use Rattle.sb_sal.proofs.Unique.{one_list}
+use Rattle.sb_sal.proofs.Whole.{longest_list}
 
 module _ (w : Lexicon) where
   pub notes_read : (tokens : List Token) (next left now : ℕ) (result : Result (Vec Note Global) Stop) → IsNotesRead w tokens next left now result
@@ -29,8 +31,11 @@ module _ (w : Lexicon) where
   notes_read tokens next left now (Err Memory) is = tt
 
   pub notes_have_reason : (tokens : List Token) (next left now : ℕ) (result : Result (Vec Note Global) Stop) → IsNotesRead w tokens next left now result
-      → HasNoteReason w left (may_stand w bearer.Any) tokens next result
-  notes_have_reason tokens next left now (Ok v) is = tt
+      → HasNoteReason w left (may_stand w bearer.Any) (λ ns v. ns ≡ plain_notes v.items) tokens next now result
+  notes_have_reason tokens next left now (Ok v) is =
+      let all : IsLongest (AreNotes w (may_stand w bearer.Any)) (drop next tokens) is.0 (drop now tokens) × (at_next (shows_more w is.0) (drop now tokens) ≡ false) =
+      longest_list w (may_stand w bearer.Any) (filled w bearer.Any) left (drop next tokens) is.0 (drop now tokens) is.1 in
+      (is.0, all.0, all.1, is.2)
   notes_have_reason tokens next left now (Err (Refused r)) is = record {
     number = is.number;
     left = is.left;

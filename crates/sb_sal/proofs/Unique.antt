@@ -12,8 +12,8 @@ use Rattle.sb_lexicon.specs.Lexicon.{Lexicon}
 use Rattle.sb_expr.specs.Readers.{expr_reader}
 use Rattle.sb_lexicon.specs.Tokens.{is_close}
 use Rattle.sb_lexicon.proofs.Depths.{some_depth}
-use Rattle.sb_sal.specs.declared.spelling.Arguments.{Arguments}
-use Rattle.sb_sal.specs.declared.spelling.Arguments.TheVariants as arguments
+use Rattle.sb_sign.specs.declared.spelling.Arguments.{Arguments}
+use Rattle.sb_sign.specs.declared.spelling.Arguments.TheVariants as arguments
 use Rattle.sb_sal.specs.Notes.{inside, anywhere, IsLocation, is_result, is_parameter, is_target, is_field, IsValue, is_value, IsNote, is_bare, has_arguments, AreArguments, one_size, two_sizes, a_condition, memory, a_note, guarded, located, AreNotes, no_notes, more_notes}
 use Rattle.sb_sal.specs.Readers.{is_nothing, continues, location}
 use Rattle.sb_sal.specs.Spellings.{begins_note, arguments_of}

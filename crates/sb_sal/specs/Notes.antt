@@ -11,8 +11,8 @@ use Rattle.sb_tree.specs.Trees as tree
 use Rattle.sb_tree.specs.Trees.{ExprTree, NoteTree, ArgTree, ExprArg, NoteArg}
 use Rattle.sb_expr.specs.Expression.{Assignment, IsExpr}
 use Rattle.sb_lexicon.specs.Lexicon.{Lexicon, is_mark, is_keyword, name_of}
-use Rattle.sb_sal.specs.declared.spelling.Arguments.{Arguments}
-use Rattle.sb_sal.specs.declared.spelling.Arguments.TheVariants as arguments
+use Rattle.sb_sign.specs.declared.spelling.Arguments.{Arguments}
+use Rattle.sb_sign.specs.declared.spelling.Arguments.TheVariants as arguments
 use Rattle.sb_sal.specs.Spellings.{arguments_of, is_listed, is_mem}
 
 -- inside the parentheses of an annotation

@@ -17,8 +17,8 @@ use Rattle.sb_expr.specs.Expression.{Assignment}
 use Rattle.sb_lexicon.specs.Lexicon.{Lexicon, is_mark, is_keyword, name_of, binary_at, assignment_of}
 use Rattle.sb_expr.specs.Readers.{expr_reader}
 use Rattle.sb_lexicon.specs.Tokens.{unexpected, too_deep, bad_arguments, bad_kind, unknown, misplaced, is_zero, is_open, is_close, is_comma, is_star, is_question, is_suffix, begins_expr}
-use Rattle.sb_sal.specs.declared.spelling.Arguments.{Arguments}
-use Rattle.sb_sal.specs.declared.spelling.Arguments.TheVariants as arguments
+use Rattle.sb_sign.specs.declared.spelling.Arguments.{Arguments}
+use Rattle.sb_sign.specs.declared.spelling.Arguments.TheVariants as arguments
 use Rattle.sb_sal.specs.Notes.{inside, place_name, anywhere}
 use Rattle.sb_sal.specs.Spellings.{begins_note, arguments_of, is_listed, is_unlisted, is_mem}
 

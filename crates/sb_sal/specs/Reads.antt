@@ -10,7 +10,7 @@ use Rattle.sb_tree.specs.Trees.{NoteTree, depth_of_note, depth_of_notes}
 use Rattle.sb_lexicon.specs.Lexicon.{Lexicon}
 use Rattle.sb_lexicon.specs.Outcomes.{IsOutcome}
 use Rattle.sb_sal.specs.declared.bearer.Bearer.TheVariants as bearer
-use Rattle.sb_sal.specs.declared.spelling.Arguments.TheVariants as arguments
+use Rattle.sb_sign.specs.declared.spelling.Arguments.TheVariants as arguments
 use Rattle.sb_sal.specs.Notes.{IsNote, AreNotes}
 use Rattle.sb_sal.specs.Readers.{is_bare, notes_reader}
 use Rattle.sb_sal.specs.Spellings.{arguments_of, may_stand}

@@ -1,23 +1,24 @@
 -- Why a list of tokens is refused as annotations.
-use Rattle.std.specs.Prelude.{◌≡◌, ℕ, Bool, true, false, ◌||◌, List, [], ◌∷◌, ◌++◌, length, drop, Option, Some, None, Result, Ok, Err}
+use Rattle.std.specs.Prelude.{◌≡◌, ℕ, Bool, true, false, ◌&&◌, ◌||◌, List, [], ◌∷◌, ◌++◌, length, drop, Option, Some, None, Result, Ok, Err}
 use Rattle.sb_base.specs.declared.refusals.Refusal.{Refusal}
 use Rattle.sb_base.specs.declared.refusals.Stop.{Stop}
 use Rattle.sb_base.specs.declared.refusals.Stop.TheVariants.{Refused, Memory}
 use Rattle.sb_base.specs.declared.tokens.Token.{Token}
-use Rattle.sb_parse.specs.Parser.{stop}
-use Rattle.sb_parse.specs.Read.{IsRefused}
+use Rattle.sb_parse.specs.Parser.{stop, at_next}
+use Rattle.sb_parse.specs.Read.{IsLongest, IsRefused}
+use Rattle.sb_tree.specs.Trees as tree
 use Rattle.sb_tree.specs.Trees.{ExprTree, NoteTree, ArgTree}
 use Rattle.sb_expr.specs.Expression.{Assignment, IsExpr}
 use Rattle.sb_lexicon.specs.Lexicon.{Lexicon}
 use Rattle.sb_lexicon.specs.Tokens.{unexpected, too_deep, is_open, is_close, is_comma, is_star, begins_expr, bad_arguments, unknown, misplaced, bad_kind}
 use Rattle.sb_lexicon.specs.Outcomes.{GoesOn, IsStop}
 use Rattle.sb_lexicon.specs.Reasons.{IsReason}
-use Rattle.sb_sal.specs.declared.spelling.Arguments.{Arguments}
-use Rattle.sb_sal.specs.declared.spelling.Arguments.TheVariants as arguments
+use Rattle.sb_sign.specs.declared.spelling.Arguments.{Arguments}
+use Rattle.sb_sign.specs.declared.spelling.Arguments.TheVariants as arguments
 use Rattle.sb_sal.specs.Notes.{inside, IsLocation, IsValue, AreArguments, AreNotes}
 use Rattle.sb_sal.specs.Readers.{is_bare, is_arrow, is_place_name, continues, notes_reader}
 use Rattle.sb_sal.specs.Reads.{FitsNotes}
-use Rattle.sb_sal.specs.Spellings.{arguments_of, is_listed, is_unlisted, is_mem}
+use Rattle.sb_sal.specs.Spellings.{begins_note, arguments_of, is_listed, is_unlisted, is_mem}
 
 -- what may come next in the arguments of an annotation
 pub data Expected : Type 0 where
@@ -123,6 +124,8 @@ pub record IsRefusedNote (w : Lexicon) (may : Token → Bool) (ts : List Token) 
   pub at_every_depth : (n ≡ too_deep → ⊥) → GoesOn (AreNotes w may) front bad → ⊥
   -- where the tokens end, they are no list of any depth
   pub at_end : (n ≡ too_deep → ⊥) → bad ≡ [] → (ns : List NoteTree) → AreNotes w may front ns → ⊥
+  -- what stands before a 31 is no list of any depth, wherever the 31 stands
+  pub unfinished : n ≡ unexpected → (ns : List NoteTree) → AreNotes w may front ns → ⊥
   -- for want of depth: a deeper list goes on there
   pub at_some_depth : n ≡ too_deep → GoesOn (AreNotes w may) front bad
 
@@ -135,8 +138,23 @@ pub record AreRefusedBecause (w : Lexicon) (room : ℕ) (may : Token → Bool) (
   pub refused : IsRefused (FitsNotes w room may) ts left
   pub because : IsRefusedNote w may ts number left
 
--- a refusal that a call answers has a reason
-abbrev pub HasNoteReason : {E : Type 0} → Lexicon → ℕ → (Token → Bool) → List Token → ℕ → Result E Stop → Type 0
-HasNoteReason w room may tokens next (Ok e) = Unit {0}
-HasNoteReason w room may tokens next (Err (Refused r)) = AreRefusedBecause w room may tokens (drop next tokens) r
-HasNoteReason w room may tokens next (Err Memory) = Unit {0}
+abbrev pub is_alone : NoteTree → Bool
+is_alone (tree.Note name tree.NoArgs place) = true
+is_alone (tree.Note name (tree.MoreArgs a rest) place) = false
+
+-- the last of the annotations is one without arguments
+abbrev pub ends_alone : List NoteTree → Bool
+ends_alone [] = false
+ends_alone (n ∷ []) = is_alone n
+ends_alone (n ∷ (m ∷ ns)) = ends_alone (m ∷ ns)
+
+-- another word in the place of an annotation, or `(` behind an annotation without arguments
+abbrev pub shows_more : Lexicon → List NoteTree → Token → Bool
+shows_more w ns t = begins_note w t || (ends_alone ns && is_open w t)
+
+-- What a call says of annotations of any depth: its answer is the longest list of all, and no token behind it is refused; a refusal has a reason. `gives ns e`: e is how the call answers ns.
+abbrev pub HasNoteReason : {E : Type 0} → Lexicon → ℕ → (Token → Bool) → (List NoteTree → E → Type 0) → List Token → (next now : ℕ) → Result E Stop → Type 0
+HasNoteReason w room may gives tokens next now (Ok e) =
+    (ns : List NoteTree) × IsLongest (AreNotes w may) (drop next tokens) ns (drop now tokens) × (at_next (shows_more w ns) (drop now tokens) ≡ false) × gives ns e
+HasNoteReason w room may gives tokens next now (Err (Refused r)) = AreRefusedBecause w room may tokens (drop next tokens) r
+HasNoteReason w room may gives tokens next now (Err Memory) = Unit {0}

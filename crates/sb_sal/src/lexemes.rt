@@ -8,16 +8,16 @@ ghost use Rattle.sb_sal.specs.Meaning.{plain_head};
 ghost use Rattle.sb_sal.specs.Notes as notes;
 ghost use Rattle.sb_sal.specs.Readers as reader;
 ghost use Rattle.sb_sal.specs.Spellings as spec;
-ghost use Rattle.sb_sign.specs.Signs.{text_at};
 
 use crate::bearer::Bearer;
-use crate::spelling::{Arguments, arguments_in, looks_like_note, may_stand_by};
-use sb_base::{Name, Names, Place, Token};
+use crate::spelling::may_stand_by;
+use sb_base::{Name, Place, Token};
 use sb_lexicon::{
-    Lexicon, Read, ReadFault, binary_at, is_assignment, is_mark, is_suffix, is_type_name, name_of,
+    Lexicon, Read, ReadFault, arguments_of, begins_note, binary_at, is_assignment, is_listed,
+    is_mark, is_suffix, is_unlisted, name_of, word_of,
 };
 use sb_operand::begins_expr;
-use sb_sign::{Mark, mark_of};
+use sb_sign::{Arguments, Mark, mark_of};
 
 /// The name of an annotation, where it stands, and which arguments it takes.
 #[derive(Clone, Copy)]
@@ -25,57 +25,6 @@ pub(crate) struct Head {
     pub(crate) name: Name,
     pub(crate) place: Place,
     pub(crate) arguments: Arguments,
-}
-
-/// The text that has this number; nothing where the table lacks it.
-fn text_of<'a>(names: &'a Names, name: Name) -> &'a [u8]
-    ensures { result.now ≡ text_at names.now.texts name.0 }
-{
-    match names.text(name) {
-        Some(text) => text,
-        None => b"".as_slice(),
-    }
-}
-
-/// How a token is spelled.
-#[tactic(auto, using(crate::proofs::Words::spelled))]
-fn word_of<'a>(lexicon: &Lexicon<'a>, token: Token) -> &'a [u8]
-    ensures { result.now ≡ spec.word_of (meant lexicon.now).texts token }
-{
-    text_of(lexicon.names, token.text)
-}
-
-/// Whether a token is a word in the place of an annotation. One that a typedef has defined is a type.
-pub fn begins_note(lexicon: &Lexicon, token: &Token) -> bool
-    ensures { result ≡ spec.begins_note (meant lexicon.now) token.now }
-{
-    name_of(lexicon, token).is_some()
-        && !is_type_name(lexicon, token)
-        && looks_like_note(word_of(lexicon, *token))
-}
-
-pub(crate) fn arguments_of(lexicon: &Lexicon, token: &Token) -> Option<Arguments>
-    ensures { result ≡ spec.arguments_of (meant lexicon.now) token.now }
-{
-    if begins_note(lexicon, token) {
-        arguments_in(word_of(lexicon, *token))
-    } else {
-        None
-    }
-}
-
-/// Whether a token is an annotation's name.
-pub fn is_listed(lexicon: &Lexicon, token: &Token) -> bool
-    ensures { result ≡ spec.is_listed (meant lexicon.now) token.now }
-{
-    arguments_of(lexicon, token).is_some()
-}
-
-/// Whether a token looks like an annotation and is none.
-pub fn is_unlisted(lexicon: &Lexicon, token: &Token) -> bool
-    ensures { result ≡ spec.is_unlisted (meant lexicon.now) token.now }
-{
-    begins_note(lexicon, token) && !is_listed(lexicon, token)
 }
 
 /// Whether a token is the word `Mem`.

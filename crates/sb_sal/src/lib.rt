@@ -11,9 +11,9 @@ mod trees;
 
 pub use bearer::Bearer;
 pub use lexemes::{
-    begins_note, is_bare, is_listed, is_listed_next, is_misplaced_next, is_note_next, is_unlisted,
-    is_unlisted_next, may_stand,
+    is_bare, is_listed_next, is_misplaced_next, is_note_next, is_unlisted_next, may_stand,
 };
 pub use nested::notes_within;
-pub use spelling::Arguments;
+pub use sb_lexicon::{begins_note, is_listed, is_unlisted};
+pub use sb_sign::Arguments;
 pub use trees::NoteList;

@@ -7,7 +7,7 @@ ghost use Rattle.sb_sal.specs.Parts as part;
 ghost use Rattle.sb_sal.specs.Readers as spec;
 ghost use Rattle.sb_sal.specs.Spellings.{begins_note, may_stand};
 ghost use Rattle.sb_tree.specs.Plain.{plain_notes};
-ghost use Rattle.sb_sal.specs.declared.spelling.Arguments.TheVariants as arguments;
+ghost use Rattle.sb_sign.specs.declared.spelling.Arguments.TheVariants as arguments;
 
 use crate::arguments::{closing, memory, separator, value};
 use crate::bearer::Bearer;
@@ -16,14 +16,13 @@ use crate::lexemes::{
     is_other_next, is_unlisted_next, take_bare, take_head,
 };
 use crate::locations::location;
-use crate::spelling::Arguments;
 use crate::trees::{
     Argument, ArgumentList, FoundNote, NoteList, alone, location_argument, none, note_argument,
     with_argument,
 };
 use sb_base::Token;
 use sb_lexicon::{Lexicon, ReadFault, Reason, is_mark_next, take_mark};
-use sb_sign::Mark;
+use sb_sign::{Arguments, Mark};
 use sb_tree::Note;
 use std::alloc::Global;
 

@@ -1,6 +1,6 @@
 //! The parts of expressions.
 
-use crate::parts::{Part, Plan, boxed_expr_part, boxed_type_part};
+use crate::parts::{ABSENT, Part, Plan};
 use crate::words::{assignment_word, binary_word, unary_word};
 use sb_tree::Expr;
 
@@ -68,10 +68,15 @@ fn operand<'a>(plan: &mut Plan<'a>, node: &'a Expr) {
         Expr::Cast { to, of, place } => {
             plan.node("cast", *place, &[Part::Type(to), Part::Expr(of)])
         }
-        Expr::SizeOf { named, of, place } => plan.node(
+        Expr::SizeOfType { named, place } => plan.node(
             "sizeof",
             *place,
-            &[boxed_type_part(named), boxed_expr_part(of)],
+            &[Part::Type(named), Part::Word(ABSENT)],
+        ),
+        Expr::SizeOfExpr { of, place } => plan.node(
+            "sizeof",
+            *place,
+            &[Part::Word(ABSENT), Part::Expr(of)],
         ),
         _ => operation(plan, node),
     }

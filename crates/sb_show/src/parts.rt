@@ -53,13 +53,6 @@ pub(crate) fn boxed_expr_part<'a>(expr: &'a Option<Box<Expr>>) -> Part<'a> {
     }
 }
 
-pub(crate) fn boxed_type_part<'a>(named: &'a Option<Box<TypeName>>) -> Part<'a> {
-    match named {
-        Some(named) => Part::Type(named),
-        None => Part::Word(ABSENT),
-    }
-}
-
 pub(crate) fn boxed_stmt_part<'a>(stmt: &'a Option<Box<Stmt>>) -> Part<'a> {
     match stmt {
         Some(stmt) => Part::Stmt(stmt),

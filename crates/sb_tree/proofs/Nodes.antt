@@ -5,39 +5,26 @@ use Rattle.std.specs.declared.alloc.Global.{Global}
 use Rattle.std.specs.declared.boxed.Box.{Box}
 use Rattle.std.proofs.Common.{ap, refl, ◌∙◌}
 use Rattle.sb_base.specs.declared.refusals.Place.{Place}
-use Rattle.sb_tree.specs.Plain.{plain_expr, plain_type, plain_stmt, boxed, size_of, optional_expr, optional_stmt, Layer, arg_step, expr_step, init_step, stmt_step, type_step, decl_step, item_step, note_step, plain_arg, plain_init, plain_decl, plain_item, plain_note}
+use Rattle.sb_tree.specs.Plain.{plain_expr, plain_type, plain_stmt, boxed, optional_expr, optional_stmt, Layer, arg_step, expr_step, init_step, stmt_step, type_step, decl_step, item_step, note_step, plain_arg, plain_init, plain_decl, plain_item, plain_note}
 use Rattle.sb_tree.specs.Trees as tree
 use Rattle.sb_tree.specs.Trees.{ExprTree, TypeTree, ItemTree, ArgTree, NoteTree, InitTree, DeclTree, StmtTree}
 use Rattle.sb_tree.specs.declared.syntax.Arg.{Arg}
 use Rattle.sb_tree.specs.declared.syntax.Decl.{Decl}
-use Rattle.sb_tree.specs.declared.syntax.Expr.{Expr, map-Expr, fold_out-Expr, out-Expr}
+use Rattle.sb_tree.specs.declared.syntax.Expr.{Expr}
 use Rattle.sb_tree.specs.declared.syntax.Init.{Init}
 use Rattle.sb_tree.specs.declared.syntax.Item.{Item}
 use Rattle.sb_tree.specs.declared.syntax.Note.{Note}
 use Rattle.sb_tree.specs.declared.syntax.Stmt.{Stmt, map-Stmt, fold_out-Stmt, out-Stmt}
 use Rattle.sb_tree.specs.declared.syntax.TypeName.{TypeName}
 use Rattle.sb_tree.specs.declared.syntax.Arg.TheOpen as layer
-use Rattle.sb_tree.specs.declared.syntax.Arg.TheViews.{SizeOf, outs-SizeOf, If, outs-If, For, outs-For}
-
-abbrev plain_expr_layer : layer.Expr-F Arg Expr Init Stmt TypeName Decl Item Note → Layer layer.Expr-F
-plain_expr_layer = map-Expr Arg Expr Init Stmt TypeName Decl Item Note ArgTree ExprTree InitTree StmtTree TypeTree DeclTree ItemTree NoteTree plain_arg plain_expr plain_init plain_stmt plain_type plain_decl plain_item plain_note
+use Rattle.sb_tree.specs.declared.syntax.Arg.TheViews.{If, outs-If, For, outs-For}
 
 abbrev plain_stmt_layer : layer.Stmt-F Arg Expr Init Stmt TypeName Decl Item Note → Layer layer.Stmt-F
 plain_stmt_layer = map-Stmt Arg Expr Init Stmt TypeName Decl Item Note ArgTree ExprTree InitTree StmtTree TypeTree DeclTree ItemTree NoteTree plain_arg plain_expr plain_init plain_stmt plain_type plain_decl plain_item plain_note
 
-opened_expr : (e : Expr) → plain_expr e ≡ expr_step (plain_expr_layer (out-Expr e))
-unfolding plain_arg plain_expr plain_init plain_stmt plain_type plain_decl plain_item plain_note
-opened_expr = fold_out-Expr ArgTree ExprTree InitTree StmtTree TypeTree DeclTree ItemTree NoteTree arg_step expr_step init_step stmt_step type_step decl_step item_step note_step
-
 opened_stmt : (s : Stmt) → plain_stmt s ≡ stmt_step (plain_stmt_layer (out-Stmt s))
 unfolding plain_arg plain_expr plain_init plain_stmt plain_type plain_decl plain_item plain_note
 opened_stmt = fold_out-Stmt ArgTree ExprTree InitTree StmtTree TypeTree DeclTree ItemTree NoteTree arg_step expr_step init_step stmt_step type_step decl_step item_step note_step
-
-pub plain_size_of : (named : Option (Box TypeName Global)) (of : Option (Box Expr Global)) (place : Place) → plain_expr (SizeOf named of place) ≡ size_of (option_map plain_type (boxed named)) (option_map plain_expr (boxed of)) place
-plain_size_of None None place = opened_expr (SizeOf None None place) ∙ ap (λ l. expr_step (plain_expr_layer l)) (outs-SizeOf None None place)
-plain_size_of None (Some e) place = opened_expr (SizeOf None (Some e) place) ∙ ap (λ l. expr_step (plain_expr_layer l)) (outs-SizeOf None (Some e) place)
-plain_size_of (Some t) None place = opened_expr (SizeOf (Some t) None place) ∙ ap (λ l. expr_step (plain_expr_layer l)) (outs-SizeOf (Some t) None place)
-plain_size_of (Some t) (Some e) place = opened_expr (SizeOf (Some t) (Some e) place) ∙ ap (λ l. expr_step (plain_expr_layer l)) (outs-SizeOf (Some t) (Some e) place)
 
 pub plain_if : (test : Expr) (body : Box Stmt Global) (other : Option (Box Stmt Global)) (place : Place) → plain_stmt (If test body other place) ≡ tree.If (plain_expr test) (plain_stmt body.value) (optional_stmt (option_map plain_stmt (boxed other))) place
 plain_if test body None place = opened_stmt (If test body None place) ∙ ap (λ l. stmt_step (plain_stmt_layer l)) (outs-If test body None place)

@@ -3,7 +3,6 @@ use Rattle.std.specs.Prelude.{List, [], ◌∷◌, map, Option, Some, None}
 use Rattle.std.specs.declared.alloc.Global.{Global}
 use Rattle.std.specs.declared.boxed.Box.{Box}
 use Rattle.std.specs.declared.vec.Vec.{Vec}
-use Rattle.sb_base.specs.declared.refusals.Place.{Place}
 use Rattle.sb_tree.specs.declared.syntax.Arg.{Arg, fold-Arg}
 use Rattle.sb_tree.specs.declared.syntax.Expr.{Expr, fold-Expr}
 use Rattle.sb_tree.specs.declared.syntax.Init.{Init, fold-Init}
@@ -77,12 +76,6 @@ abbrev pub listed : {A : Type 0} → Option (Vec A Global) → Option (List A)
 listed None = None
 listed (Some v) = Some v.items
 
-abbrev pub size_of : Option TypeTree → Option ExprTree → Place → ExprTree
-size_of (Some t) e place = tree.SizeOfType t place
-size_of None (Some e) place = tree.SizeOfExpr e place
--- in no tree that is read
-size_of None None place = tree.SizeOfType (tree.Same place) place
-
 abbrev pub expr_step : Layer layer.Expr-F → ExprTree
 expr_step (layer.Number text value place) = tree.Number text value place
 expr_step (layer.Text text place) = tree.Text text place
@@ -95,7 +88,8 @@ expr_step (layer.Call e args place) = tree.Call e.value (expr_list args.items) p
 expr_step (layer.Index e f place) = tree.Index e.value f.value place
 expr_step (layer.Member e arrow name at place) = tree.Member e.value arrow name at place
 expr_step (layer.Cast t e place) = tree.Cast t.value e.value place
-expr_step (layer.SizeOf t e place) = size_of (boxed t) (boxed e) place
+expr_step (layer.SizeOfType t place) = tree.SizeOfType t.value place
+expr_step (layer.SizeOfExpr e place) = tree.SizeOfExpr e.value place
 expr_step (layer.Expr::Paren e place) = tree.Paren e.value place
 
 abbrev pub type_step : Layer layer.TypeName-F → TypeTree

@@ -31,13 +31,8 @@ fn depth_of_expr(e: &Expr) -> u32
         Expr::Index { base, at, .. } => 1 + deeper(depth_of_expr(base), depth_of_expr(at)),
         Expr::Member { of, .. } => 1 + depth_of_expr(of),
         Expr::Cast { to, of, .. } => 1 + deeper(depth_of_type(to), depth_of_expr(of)),
-        Expr::SizeOf {
-            named: Some(named),
-            ..
-        } => 1 + depth_of_type(named),
-        Expr::SizeOf { of: Some(of), .. } => 1 + depth_of_expr(of),
-        // in no tree that is read: as deep as `sizeof` of a type
-        Expr::SizeOf { .. } => 2,
+        Expr::SizeOfType { named, .. } => 1 + depth_of_type(named),
+        Expr::SizeOfExpr { of, .. } => 1 + depth_of_expr(of),
         Expr::Paren { of, .. } => 1 + depth_of_expr(of),
     }
 }

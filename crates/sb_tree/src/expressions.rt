@@ -132,11 +132,7 @@ impl Expr {
     pub fn size_of_type(named: Box<TypeName>, place: Place) -> Expr
         ensures { plain_expr result ≡ tree.SizeOfType (plain_type named.value) place }
     {
-        Expr::SizeOf {
-            named: Some(named),
-            of: None,
-            place,
-        }
+        Expr::SizeOfType { named, place }
     }
 
     /// `sizeof of`.
@@ -144,11 +140,7 @@ impl Expr {
     pub fn size_of_expr(of: Box<Expr>, place: Place) -> Expr
         ensures { plain_expr result ≡ tree.SizeOfExpr (plain_expr of.value) place }
     {
-        Expr::SizeOf {
-            named: None,
-            of: Some(of),
-            place,
-        }
+        Expr::SizeOfExpr { of, place }
     }
 
     /// An expression in parentheses.

@@ -3,7 +3,7 @@
 use crate::operator::{BinaryOp, UnaryOp};
 use sb_base::{Name, Place};
 
-/// An expression (6.5). A character constant is a `Number`. Of a `SizeOf` one of the two is there.
+/// An expression (6.5). A character constant is a `Number`.
 #[derive(Drop)]
 #[cycle(syntax)]
 pub enum Expr {
@@ -65,9 +65,12 @@ pub enum Expr {
         of: Box<Expr>,
         place: Place,
     },
-    SizeOf {
-        named: Option<Box<TypeName>>,
-        of: Option<Box<Expr>>,
+    SizeOfType {
+        named: Box<TypeName>,
+        place: Place,
+    },
+    SizeOfExpr {
+        of: Box<Expr>,
         place: Place,
     },
     Paren {

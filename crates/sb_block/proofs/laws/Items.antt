@@ -21,7 +21,7 @@ use Rattle.sb_lexicon.proofs.Marks.{colon_token}
 use Rattle.sb_parse.proofs.Seconds.{behind, Behind, behind_law, second_of}
 use Rattle.sb_parse.proofs.Ways.{second_fails, and_first, and_second, and_fails, only_else, Refuses, one_refuses, both_refuse}
 use Rattle.sb_sal.specs.Readers as notes
-use Rattle.sb_sal.specs.declared.spelling.Arguments.{Arguments}
+use Rattle.sb_sign.specs.declared.spelling.Arguments.{Arguments}
 use Rattle.sb_sal.specs.Spellings.{begins_note, looks_like_note, word_of, arguments_of, is_listed, is_unlisted}
 use Rattle.sb_parse.proofs.Partly.{head_agree}
 use Rattle.sb_sal.proofs.Tokens.{listed_with, listed_begins, bare_by}

@@ -18,7 +18,7 @@ use Rattle.sb_lexicon.specs.Words.{Said, Nothing, Words, Whole, no_words, put, w
 use Rattle.sb_parse.proofs.Ways.{or_first, or_second}
 use Rattle.sb_lexicon.proofs.Lexemes.{keyword_is, mark_is, mark_no_keyword, name_no_keyword}
 use Rattle.sb_sal.specs.Notes.{IsNote, is_bare, has_arguments, AreNotes, no_notes, more_notes}
-use Rattle.sb_sal.specs.declared.spelling.Arguments.{Arguments}
+use Rattle.sb_sign.specs.declared.spelling.Arguments.{Arguments}
 use Rattle.sb_sal.specs.Spellings.{begins_note, arguments_in, arguments_of, word_of}
 use Rattle.sb_specifier.specs.declared.seat.Seat.{Seat}
 use Rattle.sb_specifier.specs.declared.seat.Seat.TheVariants as seat

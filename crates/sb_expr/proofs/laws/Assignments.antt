@@ -43,7 +43,7 @@ module _ (w : Lexicon) where
   infix_prefix _ _ _ (is_tighter k xs e is) h = infix_prefix k xs e is h
   infix_prefix _ _ _ (is_binary k t op at xs ys e f s first second) h = absurd (cc h)
 
-  unary_prefix : (ts : List Token) (e : ExprTree) → IsExpr w Conditional ts e → is_unary e ≡ true → IsExpr w Prefix ts e
+  pub unary_prefix : (ts : List Token) (e : ExprTree) → IsExpr w Conditional ts e → is_unary e ≡ true → IsExpr w Prefix ts e
   unary_prefix _ _ (is_infix xs e is) h = infix_prefix 10 xs e is h
   unary_prefix _ _ (is_conditional q c xs ys zs e f g question colon first second third) h = absurd (cc h)
 
@@ -59,7 +59,7 @@ module _ (w : Lexicon) where
   infix_ends_unary _ _ _ (is_tighter k xs e is) = infix_ends_unary k xs e is
   infix_ends_unary _ _ _ (is_binary k t op at xs ys e f s first second) = refl
 
-  conditional_ends_unary : (ts : List Token) (e : ExprTree) → IsExpr w Conditional ts e → ends_unary e ≡ is_unary e
+  pub conditional_ends_unary : (ts : List Token) (e : ExprTree) → IsExpr w Conditional ts e → ends_unary e ≡ is_unary e
   conditional_ends_unary _ _ (is_infix xs e is) = infix_ends_unary 10 xs e is
   conditional_ends_unary _ _ (is_conditional q c xs ys zs e f g question colon first second third) = refl
 

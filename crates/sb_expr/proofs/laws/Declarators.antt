@@ -103,10 +103,10 @@ module _ (w : Lexicon) where
       by_star true k e = star t k
       by_star false k e = by_open (is_open w t) refl e
 
-  unqualified : (t : Token) → begins_abstract w t ≡ true → is_qualifier w t ≡ false
+  pub unqualified : (t : Token) → begins_abstract w t ≡ true → is_qualifier w t ≡ false
   unqualified = by_mark_of (is_qualifier w) (mark_unqualified w mark.Star) (mark_unqualified w mark.OpenParenthesis) (mark_unqualified w mark.OpenBracket)
 
-  head_fails : (goes test : Token → Bool) → ((t : Token) → goes t ≡ true → test t ≡ false) → (ts : List Token) → at_next goes ts ≡ true → at_next test ts ≡ false
+  pub head_fails : (goes test : Token → Bool) → ((t : Token) → goes t ≡ true → test t ≡ false) → (ts : List Token) → at_next goes ts ≡ true → at_next test ts ≡ false
   head_fails goes test step [] h = refl
   head_fails goes test step (t ∷ ts) h = step t h
 
@@ -152,7 +152,7 @@ module _ (w : Lexicon) (below : ℕ) (size : ℕ → Parser Token ExprTree) (S :
   abbrev QualifierTexts : List Token → Bool → Type 0
   QualifierTexts = Turns QualifierText false
 
-  qualifiers_law : Lawful QualifierTexts (λ c. is_qualifier w) (looped (is_qualifier w) (qualifier w size b rest) false)
+  pub qualifiers_law : Lawful QualifierTexts (λ c. is_qualifier w) (looped (is_qualifier w) (qualifier w size b rest) false)
   qualifiers_law = turns_law qualifier_head false
 
   are_qualifiers : (c d : Bool) (ts : List Token) → Turns QualifierText c ts d → AreQualifiers w c ts d
@@ -174,7 +174,7 @@ module _ (w : Lexicon) (below : ℕ) (size : ℕ → Parser Token ExprTree) (S :
   stays_constant _ _ _ (constant c d t ts is are) h = stays_constant true d ts are refl
   stays_constant _ _ _ (restricted c d t ts is are) h = stays_constant c d ts are h
 
-  from_qualifiers : (c d : Bool) (ts : List Token) → AreQualifiers w c ts d → (d ≡ true → is_zero b ≡ false) → Turns QualifierText c ts d
+  pub from_qualifiers : (c d : Bool) (ts : List Token) → AreQualifiers w c ts d → (d ≡ true → is_zero b ≡ false) → Turns QualifierText c ts d
   from_qualifiers _ _ _ (no_qualifiers c) room = over c
   from_qualifiers _ _ _ (constant c d t ts is are) room =
       turn c true d (t ∷ []) ts (inl (record { open_way = room (stays_constant true d ts are refl); is = record { value = t; is = record { alone = refl; passes = is }; same = refl } }))
@@ -182,7 +182,7 @@ module _ (w : Lexicon) (below : ℕ) (size : ℕ → Parser Token ExprTree) (S :
   from_qualifiers _ _ _ (restricted c d t ts is are) room =
       turn c c d (t ∷ []) ts (inr (inl (record { value = t; is = record { alone = refl; passes = is }; same = refl }))) (from_qualifiers c d ts are room)
 
-  one_fits : (c : Bool) → (c ≡ true → is_zero b ≡ false) → one_if c ≤ b
+  pub one_fits : (c : Bool) → (c ≡ true → is_zero b ≡ false) → one_if c ≤ b
   one_fits false room = let none : 0 ≤ b = omega arith in none
   one_fits true room = by_room b (room refl)
     where
@@ -338,7 +338,7 @@ module _ (w : Lexicon) (below : ℕ) (size : ℕ → Parser Token ExprTree) (S :
   paren_head room =
       at_head (is_open w) (λ t h. goes_on_where (in_parentheses_law room t h) more_base (λ ts qs o u. ap (λ z. is_empty z && is_open w u) o.is.same)) opened_heads
 
-  base_law : Lawful BaseText more_base (choose (is_open w) (guard (is_zero b) too_deep (in_parentheses w size b rest)) (pure []))
+  pub base_law : Lawful BaseText more_base (choose (is_open w) (guard (is_zero b) too_deep (in_parentheses w size b rest)) (pure []))
   base_law = perhaps_of [] (guarded (is_zero b) too_deep paren_head) (λ t. refl)
 
   -- ---- arrays
@@ -389,7 +389,7 @@ module _ (w : Lexicon) (below : ℕ) (size : ℕ → Parser Token ExprTree) (S :
   abbrev ArrayText : List Piece → List Token → List Piece → Type 0
   ArrayText ps = Unbarred (nat_lt b (length ps)) (Opened (is_open_bracket w) (λ o. Mapped (λ e. Arrayed e o.place ∷ ps) (Closed (is_close_bracket w) (FitsSize (length ps)))))
 
-  array_head : (ps : List Piece) → OnHead (is_open_bracket w) (ArrayText ps) more_base (arrayed w size b rest ps)
+  pub array_head : (ps : List Piece) → OnHead (is_open_bracket w) (ArrayText ps) more_base (arrayed w size b rest ps)
   unfolding arrayed
   array_head ps = guarded (nat_lt b (length ps)) too_deep (λ room. at_head (is_open_bracket w) (law room) opened_heads)
     where
@@ -414,7 +414,7 @@ module _ (w : Lexicon) (below : ℕ) (size : ℕ → Parser Token ExprTree) (S :
     count : length ps ≤ suc b
     sizes : InnerFits below ps
 
-  bracket_apart : (ps : List Piece) (t : Token) → is_open_bracket w t ≡ true → more_base ps t ≡ false
+  pub bracket_apart : (ps : List Piece) (t : Token) → is_open_bracket w t ≡ true → more_base ps t ≡ false
   bracket_apart ps t h = and_fails (is_empty ps) (is_open w t) (mark_alone w mark.OpenBracket mark.OpenParenthesis t (mark_is w mark.OpenBracket t h) refl)
 
   paren_fits : (ts : List Token) (ps : List Piece) → ParenText ts ps → FitsDirect ts ps
@@ -464,7 +464,7 @@ module _ (w : Lexicon) (below : ℕ) (size : ℕ → Parser Token ExprTree) (S :
   not_zero zero le = absurd (omega arith)
   not_zero (suc n) le = refl
 
-  from_direct : (ts : List Token) (ps : List Piece) → IsDirect w ts ps → length ps ≤ suc b → InnerFits below ps → DirectText ts ps
+  pub from_direct : (ts : List Token) (ps : List Piece) → IsDirect w ts ps → length ps ≤ suc b → InnerFits below ps → DirectText ts ps
   from_direct _ _ is_nothing_more count sizes = record { before = []; after = []; value = []; split = refl; first = inr (record { none = refl; same = refl }); second = over [] }
   from_direct _ _ (is_in_parentheses o c xs p ps opens closes is) count sizes =
       let all : suc (suc (length ps)) ≤ suc b = count in
@@ -596,7 +596,7 @@ module _ (w : Lexicon) (below : ℕ) (size : ℕ → Parser Token ExprTree) (S :
         sizes = fits.1;
       })
 
-  pointed_room : (t : Token) (c : Bool) (ps : List Piece) → length (Pointed t.place ∷ constant_if c ps) ≤ suc b → InnerFits below (Pointed t.place ∷ constant_if c ps)
+  pub pointed_room : (t : Token) (c : Bool) (ps : List Piece) → length (Pointed t.place ∷ constant_if c ps) ≤ suc b → InnerFits below (Pointed t.place ∷ constant_if c ps)
       → (length ps ≤ b - one_if c) × ((c ≡ true → is_zero b ≡ false) × InnerFits below ps)
   pointed_room t true ps count sizes =
       let le : suc (suc (length ps)) ≤ suc b = count in

@@ -52,7 +52,7 @@ module _ (w : Lexicon) where
   conditional_last _ _ (is_infix xs e is) = infix_last 10 xs e (omega arith) is
   conditional_last _ _ (is_conditional q c xs ys zs e f g question colon first second third) = refl
 
-  assignment_last : (ts : List Token) (e : ExprTree) → IsExpr w Assignment ts e → last_of e ≡ e
+  pub assignment_last : (ts : List Token) (e : ExprTree) → IsExpr w Assignment ts e → last_of e ≡ e
   assignment_last _ _ (is_chosen xs e is) = conditional_last xs e is
   assignment_last _ _ (is_assignment t op at xs ys e f h first second) = refl
 
@@ -87,7 +87,7 @@ module _ (w : Lexicon) where
       second = turned_once_more j.value e f j.after us j.second once;
     }
 
-    from : (ts : List Token) (e : ExprTree) → IsExpr w Sequence ts e → depth_of_expr e ≤ suc below → Joined (FitsExpr w (suc below) Assignment) (Turns Turn) ts e
+    pub from : (ts : List Token) (e : ExprTree) → IsExpr w Sequence ts e → depth_of_expr e ≤ suc below → Joined (FitsExpr w (suc below) Assignment) (Turns Turn) ts e
     from _ _ (is_assigned xs e is) deep = record { before = xs; after = []; value = e; split = sym (append-nil xs); first = (is, deep); second = over e }
     from _ _ (is_sequence t xs ys e f comma first second) deep =
         let left : depth_of_expr e ≤ below = first_fits (depth_of_expr e) (depth_of_expr f) below deep in
@@ -102,7 +102,7 @@ module _ (w : Lexicon) where
       abbrev more_behind : ExprTree → Token → Bool
       more_behind e = more_assignment w (last_of e)
 
-      followed_head : (e : ExprTree) → OnHead (is_comma w) (Turn e) more_behind (followed w below part e)
+      pub followed_head : (e : ExprTree) → OnHead (is_comma w) (Turn e) more_behind (followed w below part e)
       unfolding followed
       followed_head e =
           guarded (nat_lt below (depth_of_expr e)) too_deep (λ room.

@@ -24,7 +24,7 @@ use Rattle.sb_expr.proofs.laws.Casts.{cast_law}
 
 module _ (w : Lexicon) where
   -- what goes on from an operator's text goes on from its right operand
-  right_operand : (k : ℕ) (op : BinaryOp) (e f : ExprTree) (at : Place) (t : Token) → more_infix w k (tree.Binary op e f at) t ≡ more_infix w k f t
+  pub right_operand : (k : ℕ) (op : BinaryOp) (e f : ExprTree) (at : Place) (t : Token) → more_infix w k (tree.Binary op e f at) t ≡ more_infix w k f t
   right_operand zero op e f at t = refl
   right_operand (suc k) op e f at t = ap (λ b. is_operator w (suc k) t || b) (right_operand k op e f at t)
 
@@ -57,7 +57,7 @@ module _ (w : Lexicon) where
       second = turned_once_more j.value e f j.after us j.second once;
     }
 
-    from : (k : ℕ) (ts : List Token) (e : ExprTree) → IsExpr w (Infix (suc k)) ts e → depth_of_expr e ≤ suc below → Joined (Fits k) (Turns (Turn k)) ts e
+    pub from : (k : ℕ) (ts : List Token) (e : ExprTree) → IsExpr w (Infix (suc k)) ts e → depth_of_expr e ≤ suc below → Joined (Fits k) (Turns (Turn k)) ts e
     from _ _ _ (is_tighter k xs e is) deep = record { before = xs; after = []; value = e; split = sym (append-nil xs); first = (is, deep); second = over e }
     from _ _ _ (is_binary k t op at xs ys e f h first second) deep =
         let left : depth_of_expr e ≤ below = first_fits (depth_of_expr e) (depth_of_expr f) below deep in
@@ -69,7 +69,7 @@ module _ (w : Lexicon) where
         })
 
     module _ (part : ℕ → Parts) (P : LawfulInside w below part) where
-      operated_head : (k : ℕ) (e : ExprTree) → OnHead (is_operator w (suc k)) (Turn k e) (more_infix w k) (operated w below part k e)
+      pub operated_head : (k : ℕ) (e : ExprTree) → OnHead (is_operator w (suc k)) (Turn k e) (more_infix w k) (operated w below part k e)
       unfolding operated
       operated_head k e =
           guarded (nat_lt below (depth_of_expr e)) too_deep (λ room. at_head (is_operator w (suc k)) (λ t h. with_operator (P (room_beside below e room)) t (operator_of w (suc k) t) refl h) begun_heads)

@@ -72,7 +72,7 @@ module _ (w : Lexicon) where
 
   -- ---- behind a type name
 
-  close_ends_type : (d : Declared) (t : Token) → is_close w t ≡ true → more_type w d t ≡ false
+  pub close_ends_type : (d : Declared) (t : Token) → is_close w t ≡ true → more_type w d t ≡ false
   close_ends_type d t h =
       ap (λ o. (is_empty d.pieces && option_map_or is_type_keyword o false) || more_abstract w d.pieces t) (mark_no_keyword w mark.CloseParenthesis t (mark_is w mark.CloseParenthesis t h)) ∙ by_test (is_empty d.pieces)
     where

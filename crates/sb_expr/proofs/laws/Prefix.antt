@@ -53,12 +53,12 @@ suffix_behind place mark.Star = refl
 suffix_behind place _ = refl
 
 module _ (w : Lexicon) where
-  prefix_op : (t : Token) (op : UnaryOp) (at : Place) → prefix_of w t ≡ Some (op, at) → is_behind op ≡ false
+  pub prefix_op : (t : Token) (op : UnaryOp) (at : Place) → prefix_of w t ≡ Some (op, at) → is_behind op ≡ false
   prefix_op t op at h =
       let m : (m : Mark) × (sign.mark_of w.texts t ≡ Some m) × (prefix_at m ≡ Some op) = gives_value prefix_at t.place (sign.mark_of w.texts t) op at h in
       ap (λ o. option_map_or is_behind o false) (sym m.2) ∙ prefix_ahead m.0
 
-  step_op : (t : Token) (op : UnaryOp) (at : Place) → step_of w t ≡ Some (op, at) → is_behind op ≡ false
+  pub step_op : (t : Token) (op : UnaryOp) (at : Place) → step_of w t ≡ Some (op, at) → is_behind op ≡ false
   step_op t op at h =
       let m : (m : Mark) × (sign.mark_of w.texts t ≡ Some m) × (step_at m ≡ Some op) = gives_value step_at t.place (sign.mark_of w.texts t) op at h in
       ap (λ o. option_map_or is_behind o false) (sym m.2) ∙ step_ahead m.0
@@ -71,7 +71,7 @@ module _ (w : Lexicon) where
       go (Some m) h = ap (λ s. option_map_or steps_behind s true) (sym h) ∙ suffix_behind t.place m
 
   -- no text of a postfix expression ends with a type in parentheses
-  postfix_plain : (ts : List Token) (e : ExprTree) → IsExpr w Postfix ts e → ends_in_type e ≡ false
+  pub postfix_plain : (ts : List Token) (e : ExprTree) → IsExpr w Postfix ts e → ends_in_type e ≡ false
   postfix_plain _ _ (is_primary _ _ (is_operand t e h)) = flipped (ends_in_type e) (operand_passes w t e (λ f. not (ends_in_type f)) (λ n v at. refl) (λ n at. refl) (λ n at. refl) h)
   postfix_plain _ _ (is_primary _ _ (is_grouped o c xs e opens closes is)) = refl
   postfix_plain _ _ (is_indexed o c at xs ys e f s closes first second) = refl
@@ -79,7 +79,7 @@ module _ (w : Lexicon) where
   postfix_plain _ _ (is_member o n arrow at name xs e s named first) = refl
   postfix_plain _ _ (is_stepped t op at xs e s first) = ap (λ b. if b then false else ends_in_type e) (suffix_op t op at s)
 
-  ahead_of : (op : UnaryOp) (at : Place) (e : ExprTree) (t : Token) → is_behind op ≡ false → more_operand w (tree.Unary op e at) t ≡ more_operand w e t
+  pub ahead_of : (op : UnaryOp) (at : Place) (e : ExprTree) (t : Token) → is_behind op ≡ false → more_operand w (tree.Unary op e at) t ≡ more_operand w e t
   ahead_of op at e t h = ap (λ b. if (if b then false else ends_in_type e) then is_open_brace w t else is_suffix w t) h
 
   abbrev pub NoText : List Token → ExprTree → Type 0

@@ -66,7 +66,7 @@ module _ (w : Lexicon) (below : ℕ) (part : ℕ → Parts) (P : (k : ℕ) → k
       let fits : depth_of_type (typed j.value m.value) ≤ suc below = omega arith in
       subst₂ (FitsType w (suc below)) (sym j.split) (sym m.same) (is_type j.before j.after b.says j.value m.value b.are b.named m.is.is, fits)
 
-  from : (ts : List Token) (d : Declared) → IsType w ts d → depth_of_type (type_of d) ≤ suc below → Joined (FitsBase w below) DeclaratorText ts d
+  pub from : (ts : List Token) (d : Declared) → IsType w ts d → depth_of_type (type_of d) ≤ suc below → Joined (FitsBase w below) DeclaratorText ts d
   from _ _ (is_type xs ys s base ps are named is) le =
       let whole : depth_of_type (typed base ps) ≡ depth_over (depth_of_type base) ps = typed_depth base ps in
       let over : depth_over (depth_of_type base) ps ≤ suc below = omega arith in

@@ -115,6 +115,46 @@ module _ (w : Lexicon) where
   can_begin Assignment t h = prefix_as Assignment as_assignment t h
   can_begin Sequence t h = prefix_as Sequence as_sequence t h
 
+  -- ---- the tokens that go on from a text
+
+  pub can_suffix : (xs : List Token) (e : ExprTree) → IsExpr w Postfix xs e → (t : Token) → is_suffix w t ≡ true → CanBegin (After xs (IsExpr w Postfix)) (t ∷ [])
+  can_suffix xs e is t h = by_value (suffix_of w t) refl h
+    where
+      by_value : (o : Option Suffix) → suffix_of w t ≡ o → is_some o ≡ true → CanBegin (After xs (IsExpr w Postfix)) (t ∷ [])
+      by_value None i k = absurd (cc k)
+      by_value (Some (suffix.Index at)) i k = record {
+        rest = number_token ∷ (close_bracket_token ∷ []);
+        tree = tree.Index e number_tree at;
+        is = is_indexed t close_bracket_token at xs (number_token ∷ []) e number_tree i (close_bracket_token_is w) is (as_sequence _ _ prefix_number);
+      }
+      by_value (Some (suffix.Call at)) i k = record { rest = close_token ∷ []; tree = tree.Call e (expr_list []) at; is = is_called t close_token at xs [] e [] i (close_token_is w) is no_arguments }
+      by_value (Some (suffix.Member arrow at)) i k = record { rest = name_token ∷ []; tree = tree.Member e arrow name_token.text name_token.place at; is = is_member t name_token arrow at name_token.text xs e i (name_token_is w) is }
+      by_value (Some (suffix.Step op at)) i k = record { rest = []; tree = tree.Unary op e at; is = is_stepped t op at xs e i is }
+
+  pub can_operate : (k : ℕ) (xs : List Token) (e : ExprTree) → IsExpr w (Infix (suc k)) xs e → (t : Token) → is_operator w (suc k) t ≡ true → CanBegin (After xs (IsExpr w (Infix (suc k)))) (t ∷ [])
+  can_operate k xs e is t h = by_value (operator_of w (suc k) t) refl h
+    where
+      by_value : (o : Option (BinaryOp × Place)) → operator_of w (suc k) t ≡ o → is_some o ≡ true → CanBegin (After xs (IsExpr w (Infix (suc k)))) (t ∷ [])
+      by_value None i h = absurd (cc h)
+      by_value (Some op) i h = record { rest = number_token ∷ []; tree = tree.Binary op.0 e number_tree op.1; is = is_binary k t op.0 op.1 xs (number_token ∷ []) e number_tree i is (as_infix k _ _ prefix_number) }
+
+  pub can_ask : (xs : List Token) (e : ExprTree) → IsExpr w (Infix 10) xs e → (q : Token) → is_question w q ≡ true → CanBegin (After xs (IsExpr w Conditional)) (q ∷ [])
+  can_ask xs e is q h = record {
+    rest = number_token ∷ (colon_token ∷ (number_token ∷ []));
+    tree = tree.Cond e number_tree number_tree q.place;
+    is = is_conditional q colon_token xs (number_token ∷ []) (number_token ∷ []) e number_tree number_tree h (colon_token_is w) is (as_sequence _ _ prefix_number) (as_conditional _ _ prefix_number);
+  }
+
+  pub can_assign : (xs : List Token) (e : ExprTree) → IsExpr w Prefix xs e → (t : Token) → is_some (assignment_of w t) ≡ true → CanBegin (After xs (IsExpr w Assignment)) (t ∷ [])
+  can_assign xs e left t h = by_value (assignment_of w t) refl h
+    where
+      by_value : (o : Option (Option BinaryOp × Place)) → assignment_of w t ≡ o → is_some o ≡ true → CanBegin (After xs (IsExpr w Assignment)) (t ∷ [])
+      by_value None i h = absurd (cc h)
+      by_value (Some op) i h = record { rest = number_token ∷ []; tree = tree.Assign op.0 e number_tree op.1; is = is_assignment t op.0 op.1 xs (number_token ∷ []) e number_tree i left (as_assignment _ _ prefix_number) }
+
+  pub can_follow : (xs : List Token) (e : ExprTree) → IsExpr w Sequence xs e → (t : Token) → is_comma w t ≡ true → CanBegin (After xs (IsExpr w Sequence)) (t ∷ [])
+  can_follow xs e is t h = record { rest = number_token ∷ []; tree = tree.Binary binary.Comma e number_tree t.place; is = is_sequence t xs (number_token ∷ []) e number_tree h is (as_assignment _ _ prefix_number) }
+
   -- with room for no tree
   pub none_grounded : (level : Level) → Grounded w (IsExpr w level) (choose (begins_at w level) (refuse too_deep) (refuse unexpected))
   none_grounded level = choosing w (IsExpr w level) (begins_at w level) _ _ (refusing_deep w (IsExpr w level) (begins_at w level) (can_begin level)) (refusing_plain w (IsExpr w level))
@@ -183,24 +223,10 @@ module _ (w : Lexicon) (below : ℕ) (part : ℕ → Parts) (Expr : (level : Lev
         (subst (λ z. IsExpr w Postfix (xs ++ (t ∷ (n ∷ []))) (tree.Member e arrow r.0 z at)) (member_is w n r k).1 (is_member t n arrow at r.0 xs e h (member_is w n r k).0 is)))
     suffix_grounded t (suffix.Step op at) h = giving w (Behind t) (tree.Unary op e at) (is_stepped t op at xs e h is)
 
-    can_suffix : (t : Token) → is_suffix w t ≡ true → CanBegin (After xs (IsExpr w Postfix)) (t ∷ [])
-    can_suffix t h = by_value (suffix_of w t) refl h
-      where
-        by_value : (o : Option Suffix) → suffix_of w t ≡ o → is_some o ≡ true → CanBegin (After xs (IsExpr w Postfix)) (t ∷ [])
-        by_value None i k = absurd (cc k)
-        by_value (Some (suffix.Index at)) i k = record {
-          rest = number_token ∷ (close_bracket_token ∷ []);
-          tree = tree.Index e number_tree at;
-          is = is_indexed t close_bracket_token at xs (number_token ∷ []) e number_tree i (close_bracket_token_is w) is (as_sequence w _ _ (prefix_number w));
-        }
-        by_value (Some (suffix.Call at)) i k = record { rest = close_token ∷ []; tree = tree.Call e (expr_list []) at; is = is_called t close_token at xs [] e [] i (close_token_is w) is no_arguments }
-        by_value (Some (suffix.Member arrow at)) i k = record { rest = name_token ∷ []; tree = tree.Member e arrow name_token.text name_token.place at; is = is_member t name_token arrow at name_token.text xs e i (name_token_is w) is }
-        by_value (Some (suffix.Step op at)) i k = record { rest = []; tree = tree.Unary op e at; is = is_stepped t op at xs e i is }
-
     suffixed_grounded : GroundedAt w (is_suffix w) (After xs (IsExpr w Postfix)) (suffixed w below part e)
     unfolding suffixed
     suffixed_grounded =
-        barring w (After xs (IsExpr w Postfix)) (is_suffix w) (nat_lt below (depth_of_expr e)) _ can_suffix (beginning w (After xs (IsExpr w Postfix)) (suffix_of w) (suffixed_by w below part e) suffix_grounded)
+        barring w (After xs (IsExpr w Postfix)) (is_suffix w) (nat_lt below (depth_of_expr e)) _ (can_suffix w xs e is) (beginning w (After xs (IsExpr w Postfix)) (suffix_of w) (suffixed_by w below part e) suffix_grounded)
 
   postfix_grounded : Grounded w (IsExpr w Postfix) (postfix w below part)
   unfolding postfix
@@ -307,17 +333,10 @@ module _ (w : Lexicon) (below : ℕ) (part : ℕ → Parts) (Expr : (level : Lev
   operated_grounded : (k : ℕ) (xs : List Token) (e : ExprTree) → IsExpr w (Infix (suc k)) xs e → GroundedAt w (is_operator w (suc k)) (After xs (IsExpr w (Infix (suc k)))) (operated w below part k e)
   unfolding operated
   operated_grounded k xs e is =
-      barring w (After xs (IsExpr w (Infix (suc k)))) (is_operator w (suc k)) (nat_lt below (depth_of_expr e)) _ can_operate
+      barring w (After xs (IsExpr w (Infix (suc k)))) (is_operator w (suc k)) (nat_lt below (depth_of_expr e)) _ (can_operate w k xs e is)
       (beginning w (After xs (IsExpr w (Infix (suc k)))) (operator_of w (suc k)) _
       (λ t op h. mapping w (IsExpr w (Infix k)) (After (t ∷ []) (After xs (IsExpr w (Infix (suc k))))) (within w below part (Infix k)) (λ f. tree.Binary op.0 e f op.1) (Expr (Infix k))
       (λ ys f second. is_binary k t op.0 op.1 xs ys e f h is second)))
-    where
-      can_operate : (t : Token) → is_operator w (suc k) t ≡ true → CanBegin (After xs (IsExpr w (Infix (suc k)))) (t ∷ [])
-      can_operate t h = by_value (operator_of w (suc k) t) refl h
-        where
-          by_value : (o : Option (BinaryOp × Place)) → operator_of w (suc k) t ≡ o → is_some o ≡ true → CanBegin (After xs (IsExpr w (Infix (suc k)))) (t ∷ [])
-          by_value None i h = absurd (cc h)
-          by_value (Some op) i h = record { rest = number_token ∷ []; tree = tree.Binary op.0 e number_tree op.1; is = is_binary k t op.0 op.1 xs (number_token ∷ []) e number_tree i is (as_infix w k _ _ (prefix_number w)) }
 
   infix_grounded : (k : ℕ) → Grounded w (IsExpr w (Infix k)) (infix_at w below part k)
   unfolding infix_at
@@ -345,16 +364,9 @@ module _ (w : Lexicon) (below : ℕ) (part : ℕ → Parts) (Expr : (level : Lev
         (λ c i. mapping w (IsExpr w Conditional) (After (c ∷ []) (After ys (After (q ∷ []) Asked))) (within w below part Conditional) (λ g. tree.Cond e f g q.place) (Expr Conditional)
         (λ zs g third. is_conditional q c xs ys zs e f g h i is second third))))
 
-    can_ask : (q : Token) → is_question w q ≡ true → CanBegin Asked (q ∷ [])
-    can_ask q h = record {
-      rest = number_token ∷ (colon_token ∷ (number_token ∷ []));
-      tree = tree.Cond e number_tree number_tree q.place;
-      is = is_conditional q colon_token xs (number_token ∷ []) (number_token ∷ []) e number_tree number_tree h (colon_token_is w) is (as_sequence w _ _ (prefix_number w)) (as_conditional w _ _ (prefix_number w));
-    }
-
     asked_grounded : Grounded w Asked (choose (is_question w) (guard (nat_lt below (depth_of_expr e)) too_deep (branches w below part e)) (pure e))
     asked_grounded =
-        choosing w Asked (is_question w) _ _ (barring w Asked (is_question w) (nat_lt below (depth_of_expr e)) _ can_ask branches_grounded)
+        choosing w Asked (is_question w) _ _ (barring w Asked (is_question w) (nat_lt below (depth_of_expr e)) _ (can_ask w xs e is) branches_grounded)
         (giving w Asked e (subst (λ z. IsExpr w Conditional z e) (sym (append-nil xs)) (is_infix xs e is)))
 
   conditional_grounded : Grounded w (IsExpr w Conditional) (conditional w below part)
@@ -373,18 +385,11 @@ module _ (w : Lexicon) (below : ℕ) (part : ℕ → Parts) (Expr : (level : Lev
         beginning w Given (assignment_of w) _
         (λ t op h. mapping w (IsExpr w Assignment) (After (t ∷ []) Given) (within w below part Assignment) (λ f. tree.Assign op.0 e f op.1) (Expr Assignment) (λ ys f second. is_assignment t op.0 op.1 xs ys e f h left second))
 
-    can_assign : IsExpr w Prefix xs e → (t : Token) → is_some (assignment_of w t) ≡ true → CanBegin Given (t ∷ [])
-    can_assign left t h = by_value (assignment_of w t) refl h
-      where
-        by_value : (o : Option (Option BinaryOp × Place)) → assignment_of w t ≡ o → is_some o ≡ true → CanBegin Given (t ∷ [])
-        by_value None i h = absurd (cc h)
-        by_value (Some op) i h = record { rest = number_token ∷ []; tree = tree.Assign op.0 e number_tree op.1; is = is_assignment t op.0 op.1 xs (number_token ∷ []) e number_tree i left (as_assignment w _ _ (prefix_number w)) }
-
     assigning_grounded : GroundedAt w (assigns w e) Given (guard (nat_lt below (depth_of_expr e)) too_deep (assigned w below part e))
     assigning_grounded [] h = absurd (cc h)
     assigning_grounded (t ∷ ts) h =
         let left : IsExpr w Prefix xs e = unary_alone w xs e is (and_first (is_unary e) (is_some (assignment_of w t)) h) in
-        barring w Given (assigns w e) (nat_lt below (depth_of_expr e)) (assigned w below part e) (λ t i. can_assign left t (and_second (is_unary e) (is_some (assignment_of w t)) i)) (assigned_grounded left) (t ∷ ts) h
+        barring w Given (assigns w e) (nat_lt below (depth_of_expr e)) (assigned w below part e) (λ t i. can_assign w xs e left t (and_second (is_unary e) (is_some (assignment_of w t)) i)) (assigned_grounded left) (t ∷ ts) h
 
   assignment_grounded : Grounded w (IsExpr w Assignment) (assignment w below part)
   unfolding assignment
@@ -396,7 +401,7 @@ module _ (w : Lexicon) (below : ℕ) (part : ℕ → Parts) (Expr : (level : Lev
   unfolding followed
   followed_grounded xs e is =
       barring w (After xs (IsExpr w Sequence)) (is_comma w) (nat_lt below (depth_of_expr e)) _
-      (λ t h. record { rest = number_token ∷ []; tree = tree.Binary binary.Comma e number_tree t.place; is = is_sequence t xs (number_token ∷ []) e number_tree h is (as_assignment w _ _ (prefix_number w)) })
+      (can_follow w xs e is)
       (opening w (After xs (IsExpr w Sequence)) (is_comma w) _
       (λ t h. mapping w (IsExpr w Assignment) (After (t ∷ []) (After xs (IsExpr w Sequence))) (within w below part Assignment) (λ f. tree.Binary binary.Comma e f t.place) (Expr Assignment)
       (λ ys f second. is_sequence t xs ys e f h is second)))

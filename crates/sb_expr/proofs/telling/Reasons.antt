@@ -1,48 +1,43 @@
 -- Why expressions and type names are refused: the number of a refusal tells whether a deeper text goes on there, one with a feature that is left out, or none.
-use Rattle.std.proofs.Common.{◌≡◌, ◌≤◌, ◌+◌, ℕ, suc, max, Bool, List, [], ◌∷◌, ◌++◌, length, drop, Result, Ok, Err, refl, sym, ap, ◌∙◌, subst, append_assoc, arith, length-append}
+use Rattle.std.proofs.Common.{◌≡◌, ◌≤◌, ◌+◌, ℕ, suc, max, Bool, List, [], ◌∷◌, ◌++◌, length, drop, Result, Ok, Err, refl, sym, ap, ◌∙◌, subst, append_assoc, arith, ◌⊎◌, inl, inr, true, false}
 use Rattle.std.proofs.Math.Nat.{le-max_left, le-max_right}
 use Rattle.sb_base.specs.declared.refusals.Stop.{Stop}
 use Rattle.sb_base.specs.declared.refusals.Stop.TheVariants.{Refused, Memory}
 use Rattle.sb_base.specs.declared.tokens.Token.{Token}
-use Rattle.sb_parse.specs.Parser.{Outcome, Parser, stop}
+use Rattle.sb_parse.specs.Parser.{Outcome, Parser, done, stop, at_next, never}
 use Rattle.sb_parse.specs.Lawful.{Stuck, Lawful}
-use Rattle.sb_parse.specs.Read.{CanBegin}
+use Rattle.sb_parse.specs.Read.{CanBegin, IsLongest}
 use Rattle.sb_parse.proofs.Reading.{none_goes_on}
+use Rattle.sb_parse.proofs.Ways.{and_first, and_second}
 use Rattle.sb_tree.specs.declared.syntax.Expr.{Expr}
 use Rattle.sb_tree.specs.declared.syntax.TypeName.{TypeName}
-use Rattle.sb_tree.specs.Trees.{depth_of_expr, depth_of_type}
+use Rattle.sb_tree.specs.Trees.{ExprTree, depth_of_expr, depth_of_type}
 use Rattle.sb_expr.specs.Expression.{Level, Sequence, IsExpr, IsType}
-use Rattle.sb_lexicon.specs.Lexicon.{Lexicon}
-use Rattle.sb_operand.specs.Pieces.{type_of}
+use Rattle.sb_lexicon.specs.Lexicon.{Lexicon, is_type_word}
+use Rattle.sb_operand.specs.Pieces.{Declared, type_of}
+use Rattle.sb_operand.specs.Readers.{calls}
 use Rattle.sb_expr.specs.Readers.{expr_reader, type_reader}
-use Rattle.sb_lexicon.specs.Tokens.{unexpected, too_deep, lacks}
-use Rattle.sb_expr.specs.Reads.{IsExprRead, IsTypeRead}
-use Rattle.sb_lexicon.specs.Reasons.{IsReason, ends, no_text, deeper, feature, IsRefusedFor, HasReason}
+use Rattle.sb_lexicon.specs.Tokens.{unexpected, too_deep, lacks, function_pointer, compound_literal, is_open_brace}
+use Rattle.sb_expr.specs.Reads.{FitsExpr, IsExprRead, IsTypeRead}
+use Rattle.sb_expr.specs.Reasons.{ends_in_type, shows_literal, HasExprReason, behind_pointers, shows_other_type, HasTypeReason}
+use Rattle.sb_lexicon.specs.Reasons.{IsReason, ends, no_text, deeper, feature, IsRefusedFor}
 use Rattle.sb_expr.proofs.tokens.More.{more, more_type}
-use Rattle.sb_expr.proofs.Tying.{lawful_parts}
+use Rattle.sb_expr.proofs.Tying.{lawful_parts, expr_longest, expr_refused, type_refused}
 use Rattle.sb_lexicon.proofs.Grounds.{Texts, Why, plain, deep, lacking, Fair, Grounded}
 use Rattle.sb_lexicon.proofs.Wider.{Held, short, same, Wider}
+use Rattle.sb_expr.proofs.telling.AnyDepth.{same_front, longest_of_all}
 use Rattle.sb_expr.proofs.telling.EachDepth.{parts_grounded}
+use Rattle.sb_expr.proofs.telling.Functions.{type_goes, no_other_type, function_refused}
+use Rattle.sb_expr.proofs.telling.Literals.{literal_refused}
+use Rattle.sb_expr.proofs.telling.Longer.{Goes, IsLiteral, goes_on}
 use Rattle.sb_expr.proofs.widening.EachDepth.{parts_wider}
 
--- ---- the place
-
-longer : (u : Token) (us ys vs : List Token) → ys ≡ u ∷ (us ++ vs) → length ys ≡ length vs → ⊥
-longer u us ys vs e h =
-    let sizes : length (us ++ vs) ≡ length us + length vs = length-append us vs in
-    let all : length ys ≡ suc (length (us ++ vs)) = ap length e in
-    omega arith
-
--- lists that end alike are alike in front
-same_front : (xs us ys vs : List Token) → xs ++ ys ≡ us ++ vs → length ys ≡ length vs → (xs ≡ us) × (ys ≡ vs)
-same_front [] [] ys vs e h = (refl, e)
-same_front [] (u ∷ us) ys vs e h = absurd (longer u us ys vs e h)
-same_front (x ∷ xs) [] ys vs e h = absurd (longer x xs vs ys (sym e) (sym h))
-same_front (x ∷ xs) (u ∷ us) ys vs e h =
-    let head : x ≡ u = cc e in
-    let tail : xs ++ ys ≡ us ++ vs = cc e in
-    let later : (xs ≡ us) × (ys ≡ vs) = same_front xs us ys vs tail h in
-    (ap (λ z. z ∷ xs) head ∙ ap (λ z. u ∷ z) later.0, later.1)
+-- behind a text of this tree the readers with room for it stop for another reason than a 31
+record StopsOtherwise {A : Type 0} (depth : A → ℕ) (reader : ℕ → Parser Token A) (a : A) (ts : List Token) : Type 0 where
+  number : ℕ
+  other : number ≡ unexpected → ⊥
+  left : ℕ
+  stops : (most : ℕ) → depth a ≤ most → reader most ts ≡ stop number left
 
 -- ---- readers of some depth
 
@@ -105,6 +100,44 @@ module _ {A : Type 0} (w : Lexicon) (Is : Texts A) (depth : A → ℕ) (more : A
           let not_deep : n ≡ too_deep → ⊥ = λ h. let both : 100 + f ≡ 32 = sym number ∙ h in omega arith in
           refused_for ts n k (lacks f) number front (t ∷ at.rest) at.split at.left_is (begins_there left ts n k e not_deep front t at.rest at.split at.left_is) (feature t at.rest f shown (hopeless left ts n k e not_deep front t at.rest at.split at.left_is))
 
+  -- ---- whole texts
+
+  -- what stands before a 31 is no text, but before a token that is spared
+  unfinished : (spares : Token → Bool)
+      → ((front : List Token) (a : A) (t : Token) (rest : List Token) → Is front a → spares t ≡ false → more a t ≡ true → CanBegin Is (front ++ (t ∷ [])) ⊎ StopsOtherwise depth reader a (front ++ (t ∷ rest)))
+      → (left : ℕ) (ts : List Token) (k : ℕ) → reader left ts ≡ stop unexpected k → (front bad : List Token) → ts ≡ front ++ bad → k ≡ length bad → at_next spares bad ≡ false → (a : A) → Is front a → ⊥
+  unfinished spares Next left ts k e front bad split left_is spared a is = by_next bad split left_is spared
+    where
+      not_deep : unexpected ≡ too_deep → ⊥
+      not_deep h = let both : Path ℕ 31 32 = h in omega arith
+
+      stops_at : (most : ℕ) → left ≤ most → reader most ts ≡ stop unexpected k
+      stops_at most le = held unexpected k (reader left ts) (reader most ts) (Wide left most le ts) e not_deep
+
+      ended : (bad : List Token) → ts ≡ front ++ bad → at_next (more a) bad ≡ false → ⊥
+      ended bad split off =
+          let enough : suc left ≤ max (suc left) (depth a) = le-max_left (suc left) (depth a) in
+          let reads : reader (max (suc left) (depth a)) ts ≡ done a bad =
+          ap (reader (max (suc left) (depth a))) split ∙ (Law (max (suc left) (depth a)) (omega arith)).complete front a bad (is, le-max_right (suc left) (depth a)) off in
+          let both : Path (Outcome Token A) (done a bad) (stop unexpected k) = sym reads ∙ stops_at (max (suc left) (depth a)) (omega arith) in
+          cc both
+
+      going_on : (t : Token) (rest : List Token) → ts ≡ front ++ (t ∷ rest) → k ≡ length (t ∷ rest) → CanBegin Is (front ++ (t ∷ [])) ⊎ StopsOtherwise depth reader a (front ++ (t ∷ rest)) → ⊥
+      going_on t rest split left_is (inl c) = hopeless left ts unexpected k e not_deep front t rest split left_is c
+      going_on t rest split left_is (inr o) =
+          let enough : suc left ≤ max (suc left) (depth a) = le-max_left (suc left) (depth a) in
+          let both : Path (Outcome Token A) (stop o.number o.left) (stop unexpected k) =
+          sym (o.stops (max (suc left) (depth a)) (le-max_right (suc left) (depth a))) ∙ sym (ap (reader (max (suc left) (depth a))) split) ∙ stops_at (max (suc left) (depth a)) (omega arith) in
+          o.other (cc both)
+
+      by_next : (bad : List Token) → ts ≡ front ++ bad → k ≡ length bad → at_next spares bad ≡ false → ⊥
+      by_next [] split left_is spared = ended [] split refl
+      by_next (t ∷ rest) split left_is spared = by_more (more a t) refl
+        where
+          by_more : (b : Bool) → more a t ≡ b → ⊥
+          by_more false m = ended (t ∷ rest) split m
+          by_more true m = going_on t rest split left_is (Next front a t rest is spared m)
+
 -- ---- expressions and type names
 
 module _ (w : Lexicon) where
@@ -117,12 +150,106 @@ module _ (w : Lexicon) where
   type_reason left ts n k e =
       reasoned w (IsType w) (λ d. depth_of_type (type_of d)) (more_type w) (type_reader w) (λ left some. (lawful_parts w left some).type_name) (λ n m le. (parts_wider w n m 0 le).1) (λ left. (parts_grounded w left 0).1) left ts n k e
 
-  pub expr_has_reason : (tokens : List Token) (next left now : ℕ) (result : Result Expr Stop) → IsExprRead w tokens next left now result → HasReason w (IsExpr w Sequence) tokens next result
-  expr_has_reason tokens next left now (Ok e) is = tt
-  expr_has_reason tokens next left now (Err (Refused r)) is = record { number = is.number; left = is.left; is = is.is; because = expr_reason left Sequence (drop next tokens) is.number is.left is.stops }
+  -- a token that goes on from the tree of an expression makes a longer one, or shows a compound literal
+  expr_next : (level : Level) (front : List Token) (e : ExprTree) (t : Token) (rest : List Token) → IsExpr w level front e → never t ≡ false → more w level e t ≡ true
+      → CanBegin (IsExpr w level) (front ++ (t ∷ [])) ⊎ StopsOtherwise depth_of_expr (λ left. expr_reader w left level) e (front ++ (t ∷ rest))
+  expr_next level front e t rest is spared m = by_case (goes_on w t level front e is m)
+    where
+      by_case : Goes w t level front ⊎ IsLiteral w t e → CanBegin (IsExpr w level) (front ++ (t ∷ [])) ⊎ StopsOtherwise depth_of_expr (λ left. expr_reader w left level) e (front ++ (t ∷ rest))
+      by_case (inl c) = inl c
+      by_case (inr l) = inr (record {
+        number = compound_literal;
+        other = λ h. let both : Path ℕ 116 31 = h in omega arith;
+        left = length (t ∷ rest);
+        stops = λ most fits. literal_refused w most level front e (t ∷ rest) is fits l.0 l.1;
+      })
+
+  expr_unfinished : (left : ℕ) (level : Level) (ts : List Token) (k : ℕ) → expr_reader w left level ts ≡ stop unexpected k → (front bad : List Token) → ts ≡ front ++ bad → k ≡ length bad → at_next never bad ≡ false
+      → (e : ExprTree) → IsExpr w level front e → ⊥
+  expr_unfinished left level ts k e front bad split left_is spared a is =
+      unfinished w (IsExpr w level) depth_of_expr (more w level) (λ left. expr_reader w left level) (λ left some. (lawful_parts w left some).expr level) (λ n m le. (parts_wider w n m 0 le).0 level)
+      (λ left. (parts_grounded w left 0).0 level) never (λ front a t rest is spared m. expr_next level front a t rest is spared m) left ts k e front bad split left_is spared a is
+
+  expr_longest_of_all : (left : ℕ) (level : Level) (ts : List Token) (e : ExprTree) (rest : List Token) → expr_reader w left level ts ≡ done e rest → IsLongest (IsExpr w level) ts e rest
+  expr_longest_of_all left level ts e rest h =
+      (longest_of_all (IsExpr w level) depth_of_expr (more w level) (λ left. expr_reader w left level) (λ left some. (lawful_parts w left some).expr level) (λ n m le. (parts_wider w n m 0 le).0 level) left ts e rest h).0
+
+  -- no compound literal stands behind what is read
+  no_literal : (left : ℕ) (level : Level) (ts : List Token) (e : ExprTree) (rest : List Token) → expr_reader w left level ts ≡ done e rest → at_next (shows_literal w e) rest ≡ false
+  no_literal left level ts e [] h = refl
+  no_literal left level ts e (t ∷ rest) h = by_test (shows_literal w e t) refl
+    where
+      by_test : (b : Bool) → shows_literal w e t ≡ b → shows_literal w e t ≡ false
+      by_test false k = k
+      by_test true k =
+          let l : IsLongest (FitsExpr w left level) ts e (t ∷ rest) = expr_longest w left level ts e (t ∷ rest) h in
+          let stops : expr_reader w left level (l.front ++ (t ∷ rest)) ≡ stop compound_literal (length (t ∷ rest)) =
+          literal_refused w left level l.front e (t ∷ rest) l.is.0 l.is.1 (and_first (ends_in_type e) (is_open_brace w t) k) (and_second (ends_in_type e) (is_open_brace w t) k) in
+          let both : Path (Outcome Token ExprTree) (done e (t ∷ rest)) (stop compound_literal (length (t ∷ rest))) = sym h ∙ ap (expr_reader w left level) l.split ∙ stops in
+          absurd (cc both)
+
+  pub expr_has_reason : (tokens : List Token) (next left now : ℕ) (result : Result Expr Stop) → IsExprRead w tokens next left now result → HasExprReason w tokens next left now result
+  expr_has_reason tokens next left now (Ok e) is =
+      (is.0, expr_longest_of_all left Sequence (drop next tokens) is.0 (drop now tokens) is.1, no_literal left Sequence (drop next tokens) is.0 (drop now tokens) is.1, is.2)
+  expr_has_reason tokens next left now (Err (Refused r)) is =
+      let because : IsRefusedFor w (IsExpr w Sequence) (drop next tokens) is.number is.left = expr_reason left Sequence (drop next tokens) is.number is.left is.stops in
+      record {
+        number = is.number;
+        left = is.left;
+        is = is.is;
+        stops = is.stops;
+        refused = expr_refused w left Sequence (drop next tokens) is.number is.left is.stops;
+        because = because;
+        unfinished = λ number spared a text.
+            expr_unfinished left Sequence (drop next tokens) is.left (is.stops ∙ ap (λ n. stop n is.left) number) because.front because.bad because.split because.left_is spared a text;
+      }
   expr_has_reason tokens next left now (Err Memory) is = tt
 
-  pub type_has_reason : (tokens : List Token) (next left now : ℕ) (result : Result TypeName Stop) → IsTypeRead w tokens next left now result → HasReason w (IsType w) tokens next result
-  type_has_reason tokens next left now (Ok t) is = tt
-  type_has_reason tokens next left now (Err (Refused r)) is = record { number = is.number; left = is.left; is = is.is; because = type_reason left (drop next tokens) is.number is.left is.stops }
+  -- a token that goes on from the tree of a type name makes a longer one, or shows a function, but for a word of a type
+  type_next : (front : List Token) (d : Declared) (t : Token) (rest : List Token) → IsType w front d → is_type_word w t ≡ false → more_type w d t ≡ true
+      → CanBegin (IsType w) (front ++ (t ∷ [])) ⊎ StopsOtherwise (λ d. depth_of_type (type_of d)) (type_reader w) d (front ++ (t ∷ rest))
+  type_next front d t rest is off m = by_case (type_goes w t front d is off m)
+    where
+      by_case : CanBegin (IsType w) (front ++ (t ∷ [])) ⊎ (calls w (behind_pointers d.pieces) t ≡ true)
+          → CanBegin (IsType w) (front ++ (t ∷ [])) ⊎ StopsOtherwise (λ d. depth_of_type (type_of d)) (type_reader w) d (front ++ (t ∷ rest))
+      by_case (inl c) = inl c
+      by_case (inr k) = inr (record {
+        number = function_pointer;
+        other = λ h. let both : Path ℕ 104 31 = h in omega arith;
+        left = length (t ∷ rest);
+        stops = λ most fits. function_refused w most front d (t ∷ rest) is fits k;
+      })
+
+  type_unfinished : (left : ℕ) (ts : List Token) (k : ℕ) → type_reader w left ts ≡ stop unexpected k → (front bad : List Token) → ts ≡ front ++ bad → k ≡ length bad → at_next (is_type_word w) bad ≡ false
+      → (d : Declared) → IsType w front d → ⊥
+  type_unfinished left ts k e front bad split left_is spared d is =
+      unfinished w (IsType w) (λ d. depth_of_type (type_of d)) (more_type w) (type_reader w) (λ left some. (lawful_parts w left some).type_name) (λ n m le. (parts_wider w n m 0 le).1) (λ left. (parts_grounded w left 0).1)
+      (is_type_word w) (λ front a t rest is spared m. type_next front a t rest is spared m) left ts k e front bad split left_is spared d is
+
+  -- the longest type name of all, behind which no token shows another type
+  type_longest_of_all : (left : ℕ) (ts : List Token) (d : Declared) (rest : List Token) → type_reader w left ts ≡ done d rest → IsLongest (IsType w) ts d rest × (at_next (shows_other_type w d) rest ≡ false)
+  type_longest_of_all left ts d rest h =
+      let all = longest_of_all (IsType w) (λ d. depth_of_type (type_of d)) (more_type w) (type_reader w) (λ left some. (lawful_parts w left some).type_name) (λ n m le. (parts_wider w n m 0 le).1) left ts d rest h in
+      (all.0, none rest all.1)
+    where
+      none : (rest : List Token) → at_next (more_type w d) rest ≡ false → at_next (shows_other_type w d) rest ≡ false
+      none [] k = refl
+      none (t ∷ rest) k = no_other_type w t d k
+
+  pub type_has_reason : (tokens : List Token) (next left now : ℕ) (result : Result TypeName Stop) → IsTypeRead w tokens next left now result → HasTypeReason w tokens next left now result
+  type_has_reason tokens next left now (Ok t) is =
+      let all : IsLongest (IsType w) (drop next tokens) is.0 (drop now tokens) × (at_next (shows_other_type w is.0) (drop now tokens) ≡ false) = type_longest_of_all left (drop next tokens) is.0 (drop now tokens) is.1 in
+      (is.0, all.0, all.1, is.2)
+  type_has_reason tokens next left now (Err (Refused r)) is =
+      let because : IsRefusedFor w (IsType w) (drop next tokens) is.number is.left = type_reason left (drop next tokens) is.number is.left is.stops in
+      record {
+        number = is.number;
+        left = is.left;
+        is = is.is;
+        stops = is.stops;
+        refused = type_refused w left (drop next tokens) is.number is.left is.stops;
+        because = because;
+        unfinished = λ number spared d text.
+            type_unfinished left (drop next tokens) is.left (is.stops ∙ ap (λ n. stop n is.left) number) because.front because.bad because.split because.left_is spared d text;
+      }
   type_has_reason tokens next left now (Err Memory) is = tt

@@ -117,7 +117,7 @@ module _ (w : Lexicon) (bar : Bool) where
 -- ---- declarators
 
 -- the pieces of some text are some pieces
-direct_empty : (w : Lexicon) (xs : List Token) (ps : List Piece) → IsDirect w xs ps → ps ≡ [] → xs ≡ []
+pub direct_empty : (w : Lexicon) (xs : List Token) (ps : List Piece) → IsDirect w xs ps → ps ≡ [] → xs ≡ []
 direct_empty w _ _ is_nothing_more e = refl
 direct_empty w _ _ (is_in_parentheses o c xs p ps opens closes is) e = absurd (cc e)
 direct_empty w _ _ (is_array o c xs ys ps size opens closes first second) e = absurd (cc e)
@@ -134,11 +134,11 @@ module _ (w : Lexicon) where
   parenthesised : (o : Token) → is_open w o ≡ true → IsDirect w (o ∷ (star_token ∷ (close_token ∷ []))) (Grouped o.place ∷ (Pointed star_token.place ∷ []))
   parenthesised o h = is_in_parentheses o close_token (star_token ∷ []) (Pointed star_token.place) [] h (close_token_is w) (a_pointer star_token (star_token_is w))
 
-  an_array : (xs : List Token) (ps : List Piece) (o : Token) → is_open_bracket w o ≡ true → IsDirect w xs ps → IsDirect w (xs ++ (o ∷ (close_bracket_token ∷ []))) (Arrayed tree.NoExpr o.place ∷ ps)
+  pub an_array : (xs : List Token) (ps : List Piece) (o : Token) → is_open_bracket w o ≡ true → IsDirect w xs ps → IsDirect w (xs ++ (o ∷ (close_bracket_token ∷ []))) (Arrayed tree.NoExpr o.place ∷ ps)
   an_array xs ps o h is = is_array o close_bracket_token xs [] ps tree.NoExpr h (close_bracket_token_is w) is no_size
 
   -- with each of these tokens a declarator begins
-  begins_text : (t : Token) → begins_abstract w t ≡ true → CanBegin (IsAbstract w) (t ∷ [])
+  pub begins_text : (t : Token) → begins_abstract w t ≡ true → CanBegin (IsAbstract w) (t ∷ [])
   begins_text t h = by_star (is_star w t) refl h
     where
       by_open : (b : Bool) → is_open w t ≡ b → (b || is_open_bracket w t) ≡ true → CanBegin (IsAbstract w) (t ∷ [])

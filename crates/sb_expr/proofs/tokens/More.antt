@@ -1,35 +1,18 @@
 -- Which tokens go on from an expression or a type name, by its tree; and the laws of the readers of one depth.
-use Rattle.std.specs.Prelude.{ℕ, zero, suc, Bool, true, false, ◌&&◌, ◌||◌, not, List, [], ◌∷◌, is_some, if◌then◌else◌}
+use Rattle.std.specs.Prelude.{ℕ, zero, suc, Bool, false, ◌&&◌, ◌||◌, not, List, is_some, if◌then◌else◌}
 use Rattle.sb_base.specs.declared.tokens.Token.{Token}
 use Rattle.sb_parse.specs.Lawful.{Lawful}
 use Rattle.sb_tree.specs.declared.operator.BinaryOp.TheVariants as binary
-use Rattle.sb_tree.specs.declared.operator.UnaryOp.{UnaryOp}
-use Rattle.sb_tree.specs.declared.operator.UnaryOp.TheVariants as unary
 use Rattle.sb_tree.specs.Trees as tree
 use Rattle.sb_tree.specs.Trees.{ExprTree}
 use Rattle.sb_expr.specs.Expression.{Level, Primary, Postfix, Prefix, Infix, Conditional, Assignment, Sequence}
 use Rattle.sb_lexicon.specs.Lexicon.{Lexicon, is_type_word, assignment_of}
-use Rattle.sb_operand.specs.Pieces.{Piece, Constant, Pointed, Declared}
+use Rattle.sb_operand.specs.Pieces.{Piece, Declared}
 use Rattle.sb_operand.specs.Readers.{begins_abstract, calls}
 use Rattle.sb_expr.specs.Readers.{Parts, is_unary}
 use Rattle.sb_lexicon.specs.Tokens.{is_suffix, is_operator, is_question, is_comma, is_open_brace, is_open_bracket, is_qualifier}
 use Rattle.sb_expr.specs.Reads.{FitsExpr, FitsType}
-
-abbrev pub is_behind : UnaryOp → Bool
-is_behind unary.PostInc = true
-is_behind unary.PostDec = true
-is_behind _ = false
-
--- the text of the tree ends with the closing parenthesis of `sizeof (type)`
-abbrev pub ends_in_type : ExprTree → Bool
-ends_in_type (tree.Unary op e place) = if is_behind op then false else ends_in_type e
-ends_in_type (tree.Binary op e f place) = ends_in_type f
-ends_in_type (tree.Assign op e f place) = ends_in_type f
-ends_in_type (tree.Cond e f g place) = ends_in_type g
-ends_in_type (tree.Cast t e place) = ends_in_type e
-ends_in_type (tree.SizeOfType t place) = true
-ends_in_type (tree.SizeOfExpr e place) = ends_in_type e
-ends_in_type _ = false
+pub use Rattle.sb_expr.specs.Reasons.{is_behind, ends_in_type, behind_pointers, is_empty}
 
 -- a brace there would make a compound literal
 abbrev pub more_operand : Lexicon → ExprTree → Token → Bool
@@ -64,17 +47,6 @@ more w (Infix k) e t = more_infix w k e t
 more w Conditional e t = more_conditional w e t
 more w Assignment e t = more_assignment w e t
 more w Sequence e t = is_comma w t || more_assignment w (last_of e) t
-
--- the pieces of a declarator behind its pointers
-abbrev pub behind_pointers : List Piece → List Piece
-behind_pointers [] = []
-behind_pointers (Constant ∷ ps) = behind_pointers ps
-behind_pointers (Pointed place ∷ ps) = behind_pointers ps
-behind_pointers ps = ps
-
-abbrev pub is_empty : List Piece → Bool
-is_empty [] = true
-is_empty (p ∷ ps) = false
 
 abbrev pub more_direct : Lexicon → List Piece → Token → Bool
 more_direct w ps t = is_open_bracket w t || calls w ps t

@@ -17,8 +17,8 @@ use Rattle.sb_lexicon.specs.Words.{Whole}
 use Rattle.sb_lexicon.specs.Tokens.{is_open, is_star}
 use Rattle.sb_lexicon.proofs.Lexemes.{close_token, close_token_is}
 use Rattle.sb_sal.specs.declared.bearer.Bearer.TheVariants as bearer
-use Rattle.sb_sal.specs.declared.spelling.Arguments.{Arguments}
-use Rattle.sb_sal.specs.declared.spelling.Arguments.TheVariants as arguments
+use Rattle.sb_sign.specs.declared.spelling.Arguments.{Arguments}
+use Rattle.sb_sign.specs.declared.spelling.Arguments.TheVariants as arguments
 use Rattle.sb_sal.specs.Notes.{anywhere, IsNote, is_bare, has_arguments, no_notes, more_notes}
 use Rattle.sb_sal.specs.Reads.{FitsNotes}
 use Rattle.sb_sal.specs.Readers as reader

@@ -19,8 +19,8 @@ use Rattle.sb_lexicon.proofs.Depths.{some_depth}
 use Rattle.sb_lexicon.proofs.Lexemes.{keyword_is, mark_is, mark_alone}
 use Rattle.sb_operand.specs.Pieces.{typed}
 use Rattle.sb_sal.specs.declared.bearer.Bearer.{Bearer}
-use Rattle.sb_sal.specs.declared.spelling.Arguments.{Arguments}
-use Rattle.sb_sal.specs.declared.spelling.Arguments.TheVariants as arguments
+use Rattle.sb_sign.specs.declared.spelling.Arguments.{Arguments}
+use Rattle.sb_sign.specs.declared.spelling.Arguments.TheVariants as arguments
 use Rattle.sb_sal.specs.Notes.{IsNote, is_bare, has_arguments, AreArguments, one_size, two_sizes, a_condition, memory, a_note, guarded, located, AreNotes, no_notes, more_notes}
 use Rattle.sb_sal.specs.Readers.{is_nothing}
 use Rattle.sb_sal.specs.Spellings.{begins_note, arguments_of}

@@ -20,8 +20,8 @@ use Rattle.sb_lexicon.proofs.Lexemes.{name_no_keyword, int_token, int_token_is, 
 use Rattle.sb_lexicon.proofs.Depths.{within_room}
 use Rattle.sb_parse.proofs.Ways.{and_first, and_second}
 use Rattle.sb_sal.specs.declared.bearer.Bearer.TheVariants as bearer
-use Rattle.sb_sal.specs.declared.spelling.Arguments.{Arguments}
-use Rattle.sb_sal.specs.declared.spelling.Arguments.TheVariants as arguments
+use Rattle.sb_sign.specs.declared.spelling.Arguments.{Arguments}
+use Rattle.sb_sign.specs.declared.spelling.Arguments.TheVariants as arguments
 use Rattle.sb_sal.specs.Notes.{anywhere, IsNote, is_bare, has_arguments, AreNotes, no_notes, more_notes}
 use Rattle.sb_sal.specs.Readers as reader
 use Rattle.sb_sal.specs.Readers.{is_nothing, note_reader}
