@@ -33,7 +33,9 @@ declared_by s None types = types
 declared_by s (Some p) types = declared (storage_of s) p.0 types
 
 pub data IsInitialised (w : Lexicon) : List Token → OptionalInit → Type 0 where
+  -- 6.7
   no_initialiser : IsInitialised w [] tree.NoInit
+  -- 6.7.8
   an_initialiser : (a : Token) (ts : List Token) (i : InitTree) → is_mark w mark.Assign a ≡ true → IsInitialiser w ts i → IsInitialised w (a ∷ ts) (tree.AnInit i)
 
 -- annotations (of these tokens) and specifiers
@@ -47,19 +49,24 @@ declaration_of notes s base d init body = tree.Decl (note_list notes) (storage_o
 
 -- a declarator with its initialiser; `outer`: the typedef names in force before the annotations
 pub data IsDeclared (texts : List (List ℕ)) (outer : List Name) (noted : List Token) (notes : List NoteTree) (s : Specified) (base : TypeTree) : List Name → List Token → DeclTree → List Name → Type 0 where
+  -- 6.7, 6.2.1 paragraph 7
   is_declared : (types : List Name) (xs js ys : List Token) (d : Declarator) (init : OptionalInit) → IsDeclarator texts types (functions_in s) false xs d
       → IsJudged (reading texts outer) (bearer_of (declares_function d.pieces)) noted notes js → IsInitialised (reading texts (declared_by s d.name types)) ys init
       → IsDeclared texts outer noted notes s base types (xs ++ (js ++ ys)) (declaration_of notes s base d init tree.NoStmt) (declared_by s d.name types)
 
 pub data AreDeclared (texts : List (List ℕ)) (outer : List Name) (noted : List Token) (notes : List NoteTree) (s : Specified) (base : TypeTree) : List Token → Declarations → Type 0 where
+  -- 6.7
   first_declared : (ts : List Token) (d : DeclTree) (now : List Name) → IsDeclared texts outer noted notes s base s.types ts d now → AreDeclared texts outer noted notes s base ts (record { list = d ∷ []; types = now })
+  -- 6.7
   declared_behind : (xs ys : List Token) (c : Token) (ds : Declarations) (d : DeclTree) (now : List Name) → is_mark (reading texts ds.types) mark.Comma c ≡ true → AreDeclared texts outer noted notes s base xs ds
       → IsDeclared texts outer noted notes s (again base) ds.types ys d now → AreDeclared texts outer noted notes s base (xs ++ (c ∷ ys)) (record { list = ds.list ++ (d ∷ []); types = now })
 
 -- a declaration, with the typedef names in force before and behind it
 pub data IsDeclaration (texts : List (List ℕ)) : List Name → List Token → Declarations → Type 0 where
+  -- 6.7 paragraph 2
   is_nameless : (types : List Name) (xs ys js : List Token) (c : Token) (notes : List NoteTree) (s : Specified) (base : TypeTree) → Begins texts types xs ys notes s base
       → IsJudged (reading texts types) bearer.Object xs notes js → is_mark (reading texts s.types) mark.Semicolon c ≡ true
       → IsDeclaration texts types (xs ++ (ys ++ (js ++ (c ∷ [])))) (record { list = tree.Decl (note_list notes) (storage_of s) base None (place_of_base base) tree.NoInit tree.NoStmt ∷ []; types = s.types })
+  -- 6.7
   is_declaration : (types : List Name) (xs ys zs : List Token) (c : Token) (notes : List NoteTree) (s : Specified) (base : TypeTree) (ds : Declarations) → Begins texts types xs ys notes s base
       → AreDeclared texts types xs notes s base zs ds → is_mark (reading texts s.types) mark.Semicolon c ≡ true → IsDeclaration texts types (xs ++ (ys ++ (zs ++ (c ∷ [])))) ds
