@@ -14,7 +14,7 @@ use crate::splits::{Sides, split_all};
 use sb_base::Place;
 use sb_function::{Comparison, Function, Simple, Statement};
 use sb_picture::{Copied, Picture, all_tidied};
-use sb_store::{Warning, store};
+use sb_store::{Report, Warning, store};
 use sb_term::{Decide, DecideFault};
 use sqlite_items::Items;
 use std::alloc::{AllocError, Global};
@@ -29,12 +29,12 @@ fn store_all<V: Decide>(
     place: Place,
     pictures: &[Picture],
     judge: &mut V,
-    report: &mut Vec<Warning>,
+    report: &mut Report,
 ) -> Result<Items<Picture>, DecideFault>
     requires { V.stop judge.old ≡ None }
-    ensures rule { EndsWith result (walked report.new.items) judge.new
+    ensures rule { EndsWith result (walked report.new) judge.new
         (run V.stop V.gives V.after
-        (store_all array index value place pictures.now (walked report.old.items [])) judge.old) }
+        (store_all array index value place pictures.now (walked report.old [])) judge.old) }
     ensures stop { OnOk result (V.stop judge.new ≡ None) }
 {
     let mut after = Items::new(alloc);
@@ -54,11 +54,11 @@ fn walk<V: Decide>(
     statement: &Statement,
     pictures: Items<Picture>,
     judge: &mut V,
-    report: &mut Vec<Warning>,
+    report: &mut Report,
 ) -> Result<Items<Picture>, DecideFault>
     requires { V.stop judge.old ≡ None }
-    ensures rule { EndsWith result (walked report.new.items) judge.new
-        (run V.stop V.gives V.after (walk (plain statement.now) pictures report.old.items)
+    ensures rule { EndsWith result (walked report.new) judge.new
+        (run V.stop V.gives V.after (walk (plain statement.now) pictures report.old)
         judge.old) }
     ensures stop { OnOk result (V.stop judge.new ≡ None) }
 {
@@ -125,12 +125,12 @@ fn walk_if<V: Decide>(
     then: &Statement,
     pictures: &[Picture],
     judge: &mut V,
-    report: &mut Vec<Warning>,
+    report: &mut Report,
 ) -> Result<Items<Picture>, DecideFault>
     requires { V.stop judge.old ≡ None }
-    ensures rule { EndsWith result (walked report.new.items) judge.new
+    ensures rule { EndsWith result (walked report.new) judge.new
         (run V.stop V.gives V.after
-        (walk (Choose left op right (plain then.now)) pictures.now report.old.items) judge.old) }
+        (walk (Choose left op right (plain then.now)) pictures.now report.old) judge.old) }
     ensures stop { OnOk result (V.stop judge.new ≡ None) }
 {
     let sides = split_all(alloc, left, op, right, pictures, judge)?;
@@ -148,12 +148,12 @@ fn walk_list<V: Decide>(
     statements: &[Statement],
     pictures: Items<Picture>,
     judge: &mut V,
-    report: &mut Vec<Warning>,
+    report: &mut Report,
 ) -> Result<Items<Picture>, DecideFault>
     requires { V.stop judge.old ≡ None }
-    ensures rule { EndsWith result (walked report.new.items) judge.new
+    ensures rule { EndsWith result (walked report.new) judge.new
         (run V.stop V.gives V.after
-        (walk (in_order (plains statements.now)) pictures report.old.items) judge.old) }
+        (walk (in_order (plains statements.now)) pictures report.old) judge.old) }
     ensures stop { OnOk result (V.stop judge.new ≡ None) }
 {
     let mut current = pictures;
@@ -178,7 +178,7 @@ pub fn function_report<V: Decide>(
     ensures stop { OnOk result (V.stop judge.new ≡ None) }
 {
     let pictures = enter(alloc, function.params.as_slice(), judge)?;
-    let mut report = Vec::new(alloc);
+    let mut report = Report::new(alloc);
     let _after = walk_list(
         alloc,
         function.body.as_slice(),
@@ -186,5 +186,5 @@ pub fn function_report<V: Decide>(
         judge,
         &mut report,
     )?;
-    Ok(Items::from_vec(report))
+    Ok(Items::from_vec(report.into_list(alloc)?))
 }

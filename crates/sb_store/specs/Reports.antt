@@ -1,5 +1,10 @@
 -- the warnings of a function: by place and number, of equal ones the first that was asked
-use Rattle.std.specs.Prelude.{ℕ, Bool, ◌&&◌, ◌||◌, List, [], ◌∷◌, Option, Some, None, insert, codes, nat_eq, nat_lt, if◌then◌else◌}
+use Rattle.std.specs.Prelude.{◌≡◌, ℕ, Bool, ◌&&◌, ◌||◌, List, [], ◌∷◌, codes, nat_eq, nat_lt, if◌then◌else◌}
+use Rattle.std.specs.List.{AllByRecursion}
+use Rattle.std.specs.List.Sorted.{IsStrictlySortedBy}
+use Rattle.std.specs.Map.{keys_of}
+use Rattle.std.specs.Ordering.{nat_cmp, ordering_then}
+use Rattle.std.specs.declared.cmp.Ordering.{Ordering}
 use Rattle.sb_store.specs.declared.warning.Need.{Need}
 use Rattle.sb_store.specs.declared.warning.Need.TheVariants.{Present, Known, FromStart, BeforeEnd}
 use Rattle.sb_store.specs.declared.warning.Warning.{Warning}
@@ -35,7 +40,18 @@ abbrev pub noted : Warning → List Warning → List Warning
 noted w [] = w ∷ []
 noted w (x ∷ xs) = if is_before w x then w ∷ x ∷ xs else (if is_alike w x then x ∷ xs else x ∷ noted w xs)
 
--- a warning at an index of a list, or nowhere
-abbrev pub put_at : Warning → List Warning → Option ℕ → List Warning
-put_at w xs None = xs
-put_at w xs (Some at) = insert xs at w
+-- where a warning stands among others: by file, line, column and number
+abbrev pub Spot : Type 0
+Spot = ℕ × ℕ × ℕ × ℕ
+
+abbrev pub spot_of : Warning → Spot
+spot_of w = (w.place.file, w.place.line, w.place.col, number_of w.need)
+
+-- the order of such places
+abbrev pub spot_cmp : Spot → Spot → Ordering
+spot_cmp a b = ordering_then (ordering_then (ordering_then (nat_cmp a.0 b.0) (nat_cmp a.1 b.1)) (nat_cmp a.2 b.2)) (nat_cmp a.3 b.3)
+
+-- warnings are kept by their places, in the order of these
+pub record AreKept (entries : List (Spot × Warning)) : Type 0 where
+  pub placed : AllByRecursion (λ e. e.0 ≡ spot_of e.1) entries
+  pub ordered : IsStrictlySortedBy spot_cmp (keys_of entries)

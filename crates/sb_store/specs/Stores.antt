@@ -1,5 +1,5 @@
 -- the rule of a store `NAME[INDEX] = VALUE;` of an `int`: what it needs, and the picture after it
-use Rattle.std.specs.Prelude.{ℕ, zero, suc, Bool, true, false, ◌&&◌, ◌||◌, not, List, [], ◌∷◌, ◌++◌, length, slice_get, slice_set, pos, negsuc, nat_eq, int_le, Option, Some, None, if◌then◌else◌}
+use Rattle.std.specs.Prelude.{ℕ, Bool, true, false, ◌&&◌, ◌||◌, not, List, [], ◌∷◌, ◌++◌, slice_get, slice_set, pos, negsuc, nat_eq, int_le, Option, Some, None, if◌then◌else◌}
 use Rattle.std.specs.List.{filter}
 use Rattle.sb_base.specs.declared.refusals.Place.{Place}
 use Rattle.sb_term.specs.declared.query.Query.{Query}

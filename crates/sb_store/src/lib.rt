@@ -10,5 +10,6 @@ mod target;
 mod warning;
 mod writing;
 
+pub use reports::Report;
 pub use stores::store;
 pub use warning::{Need, Warning};

@@ -4,7 +4,7 @@ ghost use Rattle.sb_term.specs.Asks.{run};
 ghost use Rattle.sb_store.specs.Stores.{told, needed, ask_present, ask_from_start, ask_before_end, bounds};
 ghost use Rattle.sb_picture.specs.Ends.{EndsWith};
 
-use crate::reports::note;
+use crate::reports::{Report, note};
 use crate::warning::{Need, Warning};
 use sb_base::Place;
 use sb_picture::terms::{difference, number};
@@ -20,10 +20,10 @@ fn tell(
     need: Need,
     picture: &Picture,
     asked: Asked,
-    report: &mut Vec<Warning>,
+    report: &mut Report,
 ) -> Result<(), AllocError>
     ensures { OnOk result
-        (report.new.items ≡ told place need picture.now report.old.items
+        (report.new ≡ told place need picture.now report.old
         (asked.query, asked.answer)) }
 {
     if !asked.is_proved() {
@@ -52,11 +52,11 @@ pub fn ask_need<V: Decide>(
     picture: &Picture,
     goal: Option<Term>,
     judge: &mut V,
-    report: &mut Vec<Warning>,
+    report: &mut Report,
 ) -> Result<(), DecideFault>
     requires { V.stop judge.old ≡ None }
-    ensures rule { EndsWith result (λ _. report.new.items) judge.new
-        (run V.stop V.gives V.after (needed place need picture.now goal report.old.items)
+    ensures rule { EndsWith result (λ _. report.new) judge.new
+        (run V.stop V.gives V.after (needed place need picture.now goal report.old)
         judge.old) }
     ensures stop { OnOk result (V.stop judge.new ≡ None) }
 {
@@ -72,11 +72,11 @@ fn ask_present<V: Decide>(
     picture: &Picture,
     region: &Region,
     judge: &mut V,
-    report: &mut Vec<Warning>,
+    report: &mut Report,
 ) -> Result<(), DecideFault>
     requires { V.stop judge.old ≡ None }
-    ensures rule { EndsWith result (λ _. report.new.items) judge.new
-        (run V.stop V.gives V.after (ask_present place picture.now region.now report.old.items)
+    ensures rule { EndsWith result (λ _. report.new) judge.new
+        (run V.stop V.gives V.after (ask_present place picture.now region.now report.old)
         judge.old) }
     ensures stop { OnOk result (V.stop judge.new ≡ None) }
 {
@@ -91,11 +91,11 @@ fn ask_from_start<V: Decide>(
     picture: &Picture,
     offset: &Term,
     judge: &mut V,
-    report: &mut Vec<Warning>,
+    report: &mut Report,
 ) -> Result<(), DecideFault>
     requires { V.stop judge.old ≡ None }
-    ensures rule { EndsWith result (λ _. report.new.items) judge.new
-        (run V.stop V.gives V.after (ask_from_start place picture.now offset.now report.old.items)
+    ensures rule { EndsWith result (λ _. report.new) judge.new
+        (run V.stop V.gives V.after (ask_from_start place picture.now offset.now report.old)
         judge.old) }
     ensures stop { OnOk result (V.stop judge.new ≡ None) }
 {
@@ -111,12 +111,12 @@ fn ask_before_end<V: Decide>(
     region: &Region,
     offset: &Term,
     judge: &mut V,
-    report: &mut Vec<Warning>,
+    report: &mut Report,
 ) -> Result<(), DecideFault>
     requires { V.stop judge.old ≡ None }
-    ensures rule { EndsWith result (λ _. report.new.items) judge.new
+    ensures rule { EndsWith result (λ _. report.new) judge.new
         (run V.stop V.gives V.after
-        (ask_before_end place picture.now region.now offset.now report.old.items) judge.old) }
+        (ask_before_end place picture.now region.now offset.now report.old) judge.old) }
     ensures stop { OnOk result (V.stop judge.new ≡ None) }
 {
     let before = difference(alloc, &region.extent, offset, -4)?;
@@ -139,12 +139,12 @@ pub fn bounds<V: Decide>(
     region: &Region,
     offset: &Term,
     judge: &mut V,
-    report: &mut Vec<Warning>,
+    report: &mut Report,
 ) -> Result<(), DecideFault>
     requires { V.stop judge.old ≡ None }
-    ensures rule { EndsWith result (λ _. report.new.items) judge.new
+    ensures rule { EndsWith result (λ _. report.new) judge.new
         (run V.stop V.gives V.after
-        (bounds place picture.now region.now offset.now report.old.items) judge.old) }
+        (bounds place picture.now region.now offset.now report.old) judge.old) }
     ensures stop { OnOk result (V.stop judge.new ≡ None) }
 {
     ask_present(alloc, place, picture, region, judge, report)?;

@@ -1,59 +1,72 @@
 //! The warnings of a function: by place and number, of equal ones the first that was asked.
-ghost use Rattle.std.specs.Prelude.{◌≡◌, ◌≤◌, length, IfSome, OnOk};
-ghost use Rattle.sb_store.specs.Reports.{is_before, is_before_or, is_alike, noted, put_at};
+ghost use Rattle.std.specs.Prelude.{◌≡◌, [], IfOk, OnOk};
+ghost use Rattle.sb_store.specs.Reports.{noted, spot_of};
 
 use crate::warning::Warning;
-use std::alloc::AllocError;
+use std::alloc::{AllocError, Global};
+use std::collections::BTreeMap;
+use std::marker::Model;
 
-/// The order of two numbers, and what decides where they are equal.
-fn is_before_or(first: u32, second: u32, otherwise: bool) -> bool
-    ensures { result ≡ is_before_or first second otherwise }
-{
-    first < second || (first == second && otherwise)
+/// Where a warning stands among others: its file, line, column and number.
+type Spot = (u32, u32, u32, u16);
+
+/// The warnings of a function, in the order in which they are written.
+#[derive(Drop)]
+pub struct Report {
+    warnings: BTreeMap<Spot, Warning>,
 }
 
-/// Whether a warning stands before another: by file, line, column and number.
-fn is_before(first: &Warning, second: &Warning) -> bool
-    ensures { result ≡ is_before first.now second.now }
-{
-    let number = first.need.number() < second.need.number();
-    let col = is_before_or(first.place.col, second.place.col, number);
-    let line = is_before_or(first.place.line, second.place.line, col);
-    is_before_or(first.place.file, second.place.file, line)
+impl Model for Report {
+    ghost use Rattle.std.specs.Prelude.{List};
+    ghost use Rattle.std.specs.BTreeMap.{values};
+    ghost use Rattle.sb_store.specs.declared.warning.Warning.{Warning};
+    ghost use Rattle.sb_store.specs.Reports.{AreKept};
+
+    ghost Value = { List Warning };
+
+    ghost view = { λ r. values r.warnings };
+
+    ghost invariant = { λ r. AreKept r.warnings.entries };
 }
 
-/// Whether two warnings have one place and one number.
-fn is_alike(first: &Warning, second: &Warning) -> bool
-    ensures { result ≡ is_alike first.now second.now }
+/// Where a warning stands among others.
+fn spot_of(warning: &Warning) -> Spot
+    ensures { result ≡ spot_of warning.now }
 {
-    first.place.file == second.place.file
-        && first.place.line == second.place.line
-        && first.place.col == second.place.col
-        && first.need.number() == second.need.number()
-}
-
-/// Where a warning is put into a report, or none where one like it stands.
-fn spot(report: &[Warning], warning: &Warning) -> Option<usize>
-    ensures spot { put_at warning.now report.now result ≡ noted warning.now report.now }
-    ensures within { IfSome result (λ at. at ≤ length report.now) }
-{
-    for (at, other) in report.iter().enumerate() {
-        if is_before(warning, other) {
-            return Some(at);
-        }
-        if is_alike(warning, other) {
-            return None;
-        }
-    }
-    Some(report.len())
+    let place = warning.place;
+    (place.file, place.line, place.col, warning.need.number())
 }
 
 /// One warning more, in its place.
-pub fn note(report: &mut Vec<Warning>, warning: Warning) -> Result<(), AllocError>
-    ensures { OnOk result (report.new.items ≡ noted warning report.old.items) }
+pub fn note(report: &mut Report, warning: Warning) -> Result<(), AllocError>
+    ensures { OnOk result (report.new ≡ noted warning report.old) }
 {
-    if let Some(at) = spot(report, &warning) {
-        report.insert(at, warning)?;
+    let spot = spot_of(&warning);
+    if !report.warnings.contains_key(&spot) {
+        let replaced = report.warnings.insert(spot, warning)?;
+        drop(replaced);
     }
     Ok(())
+}
+
+impl Report {
+    /// No warnings.
+    pub fn new(alloc: Global) -> Report
+        ensures empty { result ≡ [] }
+    {
+        Report {
+            warnings: BTreeMap::new(alloc),
+        }
+    }
+
+    /// The warnings as a list.
+    pub fn into_list(self, alloc: Global) -> Result<Vec<Warning>, AllocError>
+        ensures warnings { IfOk result (λ list. list.items ≡ self) }
+    {
+        let mut list = Vec::new(alloc);
+        for warning in self.warnings.into_values() {
+            list.push(warning)?;
+        }
+        Ok(list)
+    }
 }

@@ -7,8 +7,9 @@ ghost use Rattle.sb_picture.specs.Ends.{EndsWith};
 
 use crate::needs::{ask_need, bounds};
 use crate::prefixes::{grow, set_apart};
+use crate::reports::Report;
 use crate::target::{Target, Written};
-use crate::warning::{Need, Warning};
+use crate::warning::Need;
 use crate::writing::written;
 use sb_base::Place;
 use sb_function::Simple;
@@ -135,12 +136,12 @@ fn reaching<V: Decide>(
     picture: &Picture,
     target: &Target,
     judge: &mut V,
-    report: &mut Vec<Warning>,
+    report: &mut Report,
 ) -> Result<bool, DecideFault>
     requires { V.stop judge.old ≡ None }
-    ensures rule { EndsWith result (reached report.new.items) judge.new
+    ensures rule { EndsWith result (reached report.new) judge.new
         (run V.stop V.gives V.after
-        (reaching place picture.now target.now.region target.now.offset report.old.items)
+        (reaching place picture.now target.now.region target.now.offset report.old)
         judge.old) }
     ensures stop { OnOk result (V.stop judge.new ≡ None) }
 {
@@ -166,12 +167,12 @@ fn reaching_with<V: Decide>(
     target: &Target,
     value: &Option<Term>,
     judge: &mut V,
-    report: &mut Vec<Warning>,
+    report: &mut Report,
 ) -> Result<(bool, Written), DecideFault>
     requires { V.stop judge.old ≡ None }
-    ensures rule { EndsWith result (λ x. reached report.new.items x.0) judge.new
+    ensures rule { EndsWith result (λ x. reached report.new x.0) judge.new
         (run V.stop V.gives V.after
-        (reaching place picture.now target.now.region target.now.offset report.old.items)
+        (reaching place picture.now target.now.region target.now.offset report.old)
         judge.old) }
     ensures end { IfOk result (λ x. x.1.end ≡ end_of target.now.offset) }
     ensures cells { IfOk result
@@ -192,14 +193,14 @@ fn store_at<V: Decide>(
     target: Target,
     value: &Option<Term>,
     judge: &mut V,
-    report: &mut Vec<Warning>,
+    report: &mut Report,
 ) -> Result<(), DecideFault>
     requires begun { V.stop judge.old ≡ None }
     requires within { target.at < length picture.old.regions }
-    ensures rule { EndsWith result (λ _. judged report.new.items picture.new) judge.new
+    ensures rule { EndsWith result (λ _. judged report.new picture.new) judge.new
         (run V.stop V.gives V.after
         (store_at place picture.old target.at target.region target.offset value.now
-        report.old.items) judge.old) }
+        report.old) judge.old) }
     ensures stop { OnOk result (V.stop judge.new ≡ None) }
 {
     let parts = reaching_with(alloc, place, picture, &target, value, judge, report)?;
@@ -215,11 +216,11 @@ fn store_unknown<V: Decide>(
     place: Place,
     picture: &Picture,
     judge: &mut V,
-    report: &mut Vec<Warning>,
+    report: &mut Report,
 ) -> Result<(), DecideFault>
     requires { V.stop judge.old ≡ None }
-    ensures rule { EndsWith result (λ _. judged report.new.items picture.now) judge.new
-        (run V.stop V.gives V.after (store_unknown place picture.now report.old.items) judge.old) }
+    ensures rule { EndsWith result (λ _. judged report.new picture.now) judge.new
+        (run V.stop V.gives V.after (store_unknown place picture.now report.old) judge.old) }
     ensures stop { OnOk result (V.stop judge.new ≡ None) }
 {
     let goal = Some(never(alloc));
@@ -270,12 +271,12 @@ fn store_to<V: Decide>(
     target: Option<Target>,
     value: &Option<Term>,
     judge: &mut V,
-    report: &mut Vec<Warning>,
+    report: &mut Report,
 ) -> Result<(), DecideFault>
     requires begun { V.stop judge.old ≡ None }
     requires within { IfSome target (λ to. to.at < length picture.old.regions) }
-    ensures rule { EndsWith result (λ _. judged report.new.items picture.new) judge.new
-        (run V.stop V.gives V.after (store_to place picture.old target value.now report.old.items)
+    ensures rule { EndsWith result (λ _. judged report.new picture.new) judge.new
+        (run V.stop V.gives V.after (store_to place picture.old target value.now report.old)
         judge.old) }
     ensures stop { OnOk result (V.stop judge.new ≡ None) }
 {
@@ -294,12 +295,12 @@ fn store_on<V: Decide>(
     place: Place,
     picture: &mut Picture,
     judge: &mut V,
-    report: &mut Vec<Warning>,
+    report: &mut Report,
 ) -> Result<(), DecideFault>
     requires { V.stop judge.old ≡ None }
-    ensures rule { EndsWith result (λ _. judged report.new.items picture.new) judge.new
+    ensures rule { EndsWith result (λ _. judged report.new picture.new) judge.new
         (run V.stop V.gives V.after
-        (store_rule array index value place picture.old report.old.items) judge.old) }
+        (store_rule array index value place picture.old report.old) judge.old) }
     ensures stop { OnOk result (V.stop judge.new ≡ None) }
 {
     let parts = target_and_value(alloc, picture, array, index, value)?;
@@ -316,11 +317,11 @@ pub fn store<V: Decide>(
     place: Place,
     from: Picture,
     judge: &mut V,
-    report: &mut Vec<Warning>,
+    report: &mut Report,
 ) -> Result<Picture, DecideFault>
     requires { V.stop judge.old ≡ None }
-    ensures rule { EndsWith result (judged report.new.items) judge.new
-        (run V.stop V.gives V.after (store_rule array index value place from report.old.items)
+    ensures rule { EndsWith result (judged report.new) judge.new
+        (run V.stop V.gives V.after (store_rule array index value place from report.old)
         judge.old) }
     ensures stop { OnOk result (V.stop judge.new ≡ None) }
 {
