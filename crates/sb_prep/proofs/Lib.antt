@@ -1,3 +1,4 @@
+pub mod Additions
 pub mod Beginnings
 pub mod Determined
 pub mod Directives

@@ -123,16 +123,16 @@ module _ (held : List ℕ → Option (List ℕ)) (limit : ℕ) (name : List ℕ)
       let kept = keeps (Some held) limit one_answer leaves (begins_distinct number bytes pieces) in
       (conversion_kept limit kept.texts converts, kept.files)
 
-pub only_outcome : (held : Option (List ℕ → Option (List ℕ))) (limit : ℕ) (name : List ℕ) (texts files later later_files : List (List ℕ)) (result : Result (Vec Token Global) UnitFault)
-    → IsUnitOf held limit name texts files later later_files result → IsDistinct texts → IsDistinct files → (told : List ℕ → Option (List ℕ)) → held ≡ Some told
-    → IsOnlyOutcome told limit name texts files result
-only_outcome held limit name texts files later later_files (Ok tokens) told texts_distinct files_distinct library is =
-    λ ts last lasts end other.
+pub only_outcome : (held : Option (List ℕ → Option (List ℕ))) (limit : ℕ) (name : List ℕ) (texts files later last : List (List ℕ)) (result : Result (Vec Token Global) UnitFault)
+    → IsUnitOf held limit name texts files later last result → IsDistinct texts → IsDistinct files → (told : List ℕ → Option (List ℕ)) → held ≡ Some told
+    → IsOnlyOutcome told limit name texts files later last result
+only_outcome held limit name texts files later last (Ok tokens) told texts_distinct files_distinct library is =
+    λ ts names met end other.
     let same = one_unit library limit name texts files texts_distinct files_distinct (rw is at told) other in
-    (same.tokens, same.ends)
-only_outcome held limit name texts files later later_files (Err (fault.Refused r)) told texts_distinct files_distinct library is =
-    λ ts last lasts end other.
+    (same.tokens, same.laters, same.lasts, same.ends)
+only_outcome held limit name texts files later last (Err (fault.Refused r)) told texts_distinct files_distinct library is =
+    λ ts names met end other.
     let same = one_unit library limit name texts files texts_distinct files_distinct (rw is at told.0.refused) other in
-    same.ends
-only_outcome held limit name texts files later later_files (Err fault.Read) told texts_distinct files_distinct library is = tt
-only_outcome held limit name texts files later later_files (Err fault.Memory) told texts_distinct files_distinct library is = tt
+    (same.lasts, same.ends)
+only_outcome held limit name texts files later last (Err fault.Read) told texts_distinct files_distinct library is = tt
+only_outcome held limit name texts files later last (Err fault.Memory) told texts_distinct files_distinct library is = tt

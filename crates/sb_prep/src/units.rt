@@ -6,7 +6,7 @@ ghost use Rattle.sb_directive.specs.Asking as asking;
 ghost use Rattle.sb_directive.specs.Lines.{begins_directive, end_of};
 ghost use Rattle.sb_directive.specs.Stopping.{IsStop};
 ghost use Rattle.sb_directive.specs.Limits.{most_tokens};
-ghost use Rattle.sb_prep.specs.Outcomes.{IsOnlyOutcome};
+ghost use Rattle.sb_prep.specs.Outcomes.{IfEnded, IsOnlyOutcome};
 ghost use Rattle.sb_prep.specs.Reading.{IsCarried, IsDirective, IsNoDirective, IsTextRead, IsLate, IsPartRead, IsUnclosed, IsFile, HasPieces, HasNoPieces, IsUnitOf};
 ghost use Rattle.sb_prep.specs.Standing.{moved_to, start};
 ghost use Rattle.sb_prep.specs.Stopping.{IsFault, IsIn, AreIn, AreTokensIn, IsKept, HasCause};
@@ -328,7 +328,12 @@ pub fn unit<L: Library>(
         names.new.texts files.new result }
     ensures only { IsDistinct names.old.texts → IsDistinct files.old
         → (told : List ℕ → Option (List ℕ)) → L.held lib.old ≡ Some told
-        → IsOnlyOutcome told names.old.limit name.now names.old.texts files.old result }
+        → IsOnlyOutcome told names.old.limit name.now names.old.texts files.old names.new.texts
+        files.new result }
+    ensures names { IfOk result (λ _. IsKept names.old.texts names.new.texts) }
+    ensures distinct { IfOk result (λ _. IsDistinct names.old.texts → IsDistinct names.new.texts) }
+    ensures distinct_files { IfEnded result (IsDistinct files.old → IsDistinct files.new) }
+    ensures few { IfEnded result (length files.new ≤ length files.old + 4000001) }
     ensures places { IfOk result (λ tokens. AreTokensIn (length files.new) tokens.items) }
     ensures most { IfOk result (λ tokens. length tokens.items ≤ most_tokens) }
     ensures limit { names.new.limit ≡ names.old.limit }
