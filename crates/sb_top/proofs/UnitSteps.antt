@@ -2,7 +2,6 @@
 use Rattle.std.proofs.Common.{◌≡◌, ◌<◌, ◌≤◌, ◌+◌, ℕ, List, [], ◌∷◌, ◌++◌, length, Option, Err, map, get_or, drop, refl, sym, ap, ◌∙◌, subst, arith, add-one, append_assoc, append-nil, length-append}
 use Rattle.std.proofs.Math.Seq.{drop-cons}
 use Rattle.std.proofs.Math.ListN.{drop_of_length-le}
-use Rattle.sb_base.specs.Outside.{Rose}
 use Rattle.sb_base.specs.declared.refusals.Place.{Place}
 use Rattle.sb_base.specs.declared.refusals.Refusal.{Refusal}
 use Rattle.sb_base.specs.declared.tokens.Token.{Token}
@@ -21,7 +20,7 @@ use Rattle.sb_function.specs.Syntax.{FunctionTree}
 use Rattle.sb_function.specs.Grammar.{IsFile}
 use Rattle.sb_function.specs.Grammar.AreFunctions.{ended as nothing}
 use Rattle.sb_function.specs.Lexemes.{pieces_of}
-use Rattle.sb_top.specs.Sets.{Ending, Whole, Stopped, HasTree, IsRefusedUnit, UnitEndsAs, AreUnits, AreRead, IsRefusedAt, IsUnreadAt, EndAs, HasUnitCause, UnitReadAs, ReadAs}
+use Rattle.sb_top.specs.Sets.{Ending, Whole, Stopped, HasTree, IsRefusedUnit, UnitEndsAs, AreUnits, AreRead, IsRefusedAt, IsUnreadAt, EndAs, UnitReadAs, ReadAs}
 use Rattle.sb_top.specs.Sets.IsRefusedUnit.{by_preprocessor}
 use Rattle.sb_top.specs.Sets.AreUnits.{none, next, refused}
 use Rattle.sb_top.specs.Sets.AreRead.{ended, read}
@@ -123,13 +122,6 @@ units_stop Y Z held now_held limit now_limit texts files names found now there r
     (found ++ [], told.0, goes_refused held limit texts files names found now there rest told.0 last left name r goes split moved)
 units_stop Y Z held now_held limit now_limit texts files names found now there rest later last left name stop.Read same most goes split told = tt
 units_stop Y Z held now_held limit now_limit texts files names found now there rest later last left name stop.Memory same most goes split told = tt
-
--- the cause of a unit that is not whole, where nothing failed before it
-pub units_cause : (Y Z : Type 0) (start before now : ℕ) (fault : UnitFault) → before ≡ start
-    → HasUnitCause {A = Y} before now (Err fault) → HasUnitCause {A = Z} start now (Err fault)
-units_cause Y Z start before now (stop.Refused r) same cause = cause ∙ same
-units_cause Y Z start before now stop.Read same cause = subst (λ z. Rose z now × (z ≤ now)) same cause
-units_cause Y Z start before now stop.Memory same cause = cause ∙ same
 
 pub units_go : (held now_held : Option (List ℕ → Option (List ℕ))) (limit now_limit : ℕ) (texts files names : List (List ℕ)) (found : List (List Token)) (now there rest middle between left : List (List ℕ)) (name : List ℕ) (tokens : List Token)
     → now_held ≡ held → now_limit ≡ limit → Goes held limit texts files names found now there rest → rest ≡ name ∷ left → IsUnit now_held now_limit name now there tokens middle between Ended × HasTree middle tokens

@@ -3,3 +3,4 @@ pub mod Words
 pub mod Stands
 pub mod Sets
 pub mod Outcomes
+pub mod Asked

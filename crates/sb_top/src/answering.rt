@@ -5,9 +5,8 @@ ghost use Rattle.sb_top.specs.Sets.{tokens_of};
 ghost use Rattle.sb_top.specs.Sets.Ending.{Whole};
 ghost use Rattle.sb_top.specs.Outcomes.{IsEndOf, IsDefined};
 
-use crate::command::files_of_words;
 use crate::reply::{Reply, refusal_reply, report_reply, unread_reply, usage_reply};
-use crate::sets::{SetFault, read_units, units};
+use crate::sets::{SetFault, Units, read_units, units_of_words};
 use sb_base::{FetchFault, Files, Library, Names, Token};
 use sb_judge::reports_of;
 use sb_prep::UnitFault;
@@ -46,13 +45,16 @@ pub(crate) fn reply_to<L: Library>(
     ensures held { L.held lib.new ≡ L.held lib.old }
     ensures cause { HasReadCause (L.faults lib.old) (L.faults lib.new) result }
 {
-    let Some(asked) = files_of_words(words) else {
+    let Some(units) = units_of_words(alloc, lib, words) else {
         return Ok(usage_reply(alloc)?);
     };
-    let mut names = Names::new(alloc, u32::MAX);
-    let mut files = Files::new(alloc);
-    let reply = match units(alloc, &mut names, &mut files, lib, asked) {
-        Ok(units) => reply_to_units(alloc, &names, &files, units.as_slice())?,
+    let Units {
+        names,
+        files,
+        tokens,
+    } = units;
+    let reply = match tokens {
+        Ok(tokens) => reply_to_units(alloc, &names, &files, tokens.as_slice())?,
         Err(UnitFault::Refused(refusal)) => refusal_reply(alloc, &files, refusal)?,
         Err(UnitFault::Read) => return Err(FetchFault::Failed),
         Err(UnitFault::Memory) => return Err(FetchFault::Memory),

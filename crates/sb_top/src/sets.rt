@@ -1,9 +1,11 @@
 //! The set of functions that the files of a command line define: their units, and what the grammar reads of them.
-ghost use Rattle.std.specs.Prelude.{◌≡◌, ◌<◌, ◌≤◌, ◌-◌, ◌^◌, Some, length, map, max, slice_get, string_bytes};
+ghost use Rattle.std.specs.Prelude.{◌≡◌, ◌<◌, ◌≤◌, ◌+◌, ◌-◌, ◌^◌, Err, IfOk, Some, length, map, max, slice_get, string_bytes};
 ghost use Rattle.sb_base.specs.Outside.{Rose};
 ghost use Rattle.sb_function.specs.Lexemes.{pieces_of};
-ghost use Rattle.sb_top.specs.Sets.{tokens_of, EndAs, ReadAs, UnitEndsAs, UnitReadAs, HasUnitCause};
+ghost use Rattle.sb_top.specs.Asked.{AreAsked, HasAskedCause};
+ghost use Rattle.sb_top.specs.Sets.{tokens_of, ReadAs, UnitEndsAs, UnitReadAs, HasUnitCause};
 
+use crate::command::files_of_words;
 use sb_base::{Files, Library, Names, Place, Stop, Token};
 use sb_function::{Function, Piece, ReadFault, pieces_of, read_file};
 use sb_grammar::tree;
@@ -28,8 +30,27 @@ impl From<AllocError> for SetFault {
     }
 }
 
-/// A unit is begun where at most so many files were met before it, which is more than 256 units meet.
-const MOST_FILES: u32 = 1 << 31;
+/// The units of some files, with the tables of names and of files that went through them.
+#[derive(Drop)]
+pub(crate) struct Units {
+    pub(crate) names: Names,
+    pub(crate) files: Files,
+    /// The tokens of each, or why one of them has none.
+    pub(crate) tokens: Result<Vec<Vec<Token>>, UnitFault>,
+}
+
+impl Units {
+    /// The units end at a fault.
+    fn stopped(names: Names, files: Files, fault: UnitFault) -> Units
+        ensures { result ≡ record { names = names; files = files; tokens = Err fault } }
+    {
+        Units {
+            names,
+            files,
+            tokens: Err(fault),
+        }
+    }
+}
 
 /// The tokens of a file's unit, which have to be the text of a translation unit.
 fn whole_unit<L: Library>(
@@ -42,6 +63,7 @@ fn whole_unit<L: Library>(
     requires room { length files.old ≤ 2 ^ 31 }
     ensures unit { UnitEndsAs (L.held lib.old) names.old.limit name.now names.old.texts files.old
         names.new.texts files.new result }
+    ensures few { IfOk result (λ _. length files.new ≤ length files.old + 4000001) }
     ensures limit { names.new.limit ≡ names.old.limit }
     ensures held { L.held lib.new ≡ L.held lib.old }
     ensures cause { HasUnitCause (L.faults lib.old) (L.faults lib.new) result }
@@ -54,30 +76,36 @@ fn whole_unit<L: Library>(
     }
 }
 
-/// The tokens of the units of some files, in order. The tables of names and of files go through them.
-pub(crate) fn units<L: Library>(
+/// The units of the files that the words ask for, in order, or None where they are no command. The tables of names and
+/// of files begin empty and go through the units: each meets at most 4,000,001 files, so that 256 of them leave room.
+pub(crate) fn units_of_words<L: Library>(
     alloc: Global,
-    names: &mut Names,
-    files: &mut Files,
     lib: &mut L,
-    asked: &[String],
-) -> Result<Vec<Vec<Token>>, UnitFault>
-    ensures units { EndAs (L.held lib.old) names.old.limit names.old.texts files.old
-        (map string_bytes asked.now) names.new.texts files.new result }
-    ensures cause { HasUnitCause (L.faults lib.old) (L.faults lib.new) result }
+    words: &[String],
+) -> Option<Units>
+    ensures units { AreAsked (L.held lib.old) (map string_bytes words.now) result }
+    ensures cause { HasAskedCause (L.faults lib.old) (L.faults lib.new) result }
     ensures held { L.held lib.new ≡ L.held lib.old }
 {
+    let asked = files_of_words(words)?;
+    let mut names = Names::new(alloc, u32::MAX);
+    let mut files = Files::new(alloc);
     let mut units = Vec::new(alloc);
     for name in asked {
-        if files.count() > MOST_FILES {
-            return Err(UnitFault::Memory);
+        match whole_unit(alloc, &mut names, &mut files, lib, name.as_bytes()) {
+            Ok(tokens) => {
+                let Ok(()) = units.push(tokens) else {
+                    return Some(Units::stopped(names, files, UnitFault::Memory));
+                };
+            }
+            Err(fault) => return Some(Units::stopped(names, files, fault)),
         }
-        let tokens = whole_unit(alloc, names, files, lib, name.as_bytes())?;
-        let Ok(()) = units.push(tokens) else {
-            return Err(UnitFault::Memory);
-        };
     }
-    Ok(units)
+    Some(Units {
+        names,
+        files,
+        tokens: Ok(units),
+    })
 }
 
 /// The first of the last `left` pieces, or the last one where none is left.
