@@ -5,8 +5,8 @@ Usage: scale.py BINARY   (as crates/prefast/out/prefast)
 Checks texts of one form in three sizes each, and prints the time and how much faster than the text it grew (1.0: as the
 text): functions that cycle a bounded store and one that is off by one; a file of comments, up to 4 MiB; uses of short
 macros, up to 100,000; 64 headers, each included by the one before it, up to 4 MiB in all; macros that are defined and
-used, up to 20,000. Then forms whose time is known to grow as the square of the text: declarators behind as many
-annotations, typedef names that are defined and used, warnings in one function.
+used, up to 20,000; warnings in one function, up to 64,000. Then forms whose time is known to grow as the square of the
+text: declarators behind as many annotations, typedef names that are defined and used.
 """
 import os
 import subprocess
@@ -81,9 +81,9 @@ SERIES = (
     ("uses of macros", macros, (10000, 50000, 100000), lambda n: f"0 warnings in {n // 8} functions"),
     ("bytes of 64 nested headers", includes, (FILE_BYTES // 4, FILE_BYTES // 2, FILE_BYTES), lambda n: "0 warnings in 0 functions"),
     ("macros", definitions, (5000, 10000, 20000), lambda n: f"t.c:{n + 1}:1: {UNBUILT}"),
+    ("warnings in a function", warnings, (4000, 16000, 64000), lambda n: f"{n} warnings in 1 functions"),
     ("declarators behind annotations", declarators, (250, 500, 1000), lambda n: f"t.c:1:1: {UNBUILT}"),
     ("typedef names", typedefs, (2000, 4000, 8000), lambda n: f"t.c:1:1: {UNBUILT}"),
-    ("warnings in a function", warnings, (500, 1000, 2000), lambda n: f"{n} warnings in 1 functions"),
 )
 
 
