@@ -22,10 +22,10 @@ use Rattle.sb_lexicon.specs.Tokens.{unexpected, too_deep, too_many_parameters, i
 use Rattle.sb_lexicon.specs.Outcomes.{nowhere}
 use Rattle.sb_sal.specs.declared.bearer.Bearer.TheVariants as bearer
 use Rattle.sb_sal.specs.Readers.{notes_reader}
-use Rattle.sb_sal.specs.Spellings.{begins_note, may_stand}
+use Rattle.sb_sal.specs.Spellings.{begins_note, is_listed, may_stand}
 use Rattle.sb_specifier.specs.declared.seat.Seat.TheVariants as seat
 use Rattle.sb_specifier.specs.Specified.{without, reading, one_if, again, is_function, is_bare}
-use Rattle.sb_specifier.specs.Readers.{Declarations, Declarator, Parts, barred, begins_parameter, bit_field, goes_on_void, is_close_brace, is_name, is_semicolon, name_at, name_in, old_definition, one_more, place_in, specifiers, variable_arguments, with_pieces}
+use Rattle.sb_specifier.specs.Readers.{Declarations, Declarator, Parts, barred, barred_by, begins_parameter, bit_field, goes_on_void, is_close_brace, is_name, is_semicolon, makes_room, name_at, name_in, old_definition, one_more, place_in, specifiers, variable_arguments, with_pieces}
 use Rattle.sb_parse.specs.Texts.{with_text}
 
 -- ---- declarators
@@ -45,9 +45,9 @@ module _ (w : Lexicon) (functions may_lack : Bool) (below : ℕ) (part : ℕ →
   unfoldable pub inside : Token → Parser Token Declarator
   inside o = rest 0 >>= (λ d. token unexpected (is_close w) >>= (λ c. pure (with_pieces (Grouped o.place ∷ d.pieces) d)))
 
-  -- with this token a parenthesis behind a parameter's type begins a declarator
+  -- with this token a parenthesis behind a parameter's type begins a declarator: `int (_Tag)` has a name that only looks like an annotation, and in `int (_In_ int)` a parameter begins
   abbrev pub begins_inner : Token → Bool
-  begins_inner t = begins_abstract w t || (is_name w t && not (is_type_name w t || begins_note w t))
+  begins_inner t = begins_abstract w t || (is_name w t && not (is_type_name w t || is_listed w t))
 
   unfoldable pub in_parentheses : Parser Token Declarator
   in_parentheses = token unexpected (is_open w) >>= (λ o.
@@ -81,14 +81,16 @@ module _ (w : Lexicon) (functions may_lack : Bool) (below : ℕ) (part : ℕ →
   is_size_word t = is_keyword w keyword.Static t || is_qualifier w t
 
   -- qualifiers and `static` before the size of a parameter's outermost array (6.7.5.3 paragraph 7), which say nothing that a tree keeps
-  unfoldable pub size_word : Bool → Parser Token Bool
-  size_word fixed =
-      choose (λ t. is_keyword w keyword.Static t && not fixed) (token unexpected (is_keyword w keyword.Static) >>= (λ t. pure true))
+  -- `found`: whether qualifiers stand before `static`, and whether it was read; `[const static const 3]` is refused at the second `const`
+  unfoldable pub size_word : Bool × Bool → Parser Token (Bool × Bool)
+  size_word found =
+      choose (λ t. is_keyword w keyword.Static t && not found.1) (token unexpected (is_keyword w keyword.Static) >>= (λ t. pure (found.0, true)))
+      (guard (found.0 && found.1) unexpected
       (choose (is_keyword w keyword.Volatile) (refuse expr.volatile)
-      (token unexpected (is_qualifier w) >>= (λ t. pure fixed)))
+      (token unexpected (is_qualifier w) >>= (λ t. pure (not found.1, found.1)))))
 
   unfoldable pub outermost_size : ℕ → Parser Token OptionalExpr
-  outermost_size n = looped is_size_word size_word false >>= (λ fixed. if fixed then size n else sized n)
+  outermost_size n = looped is_size_word size_word (false, false) >>= (λ found. if found.1 then size n else sized n)
 
   unfoldable pub arrayed : Declarator → Parser Token Declarator
   arrayed d = guard (nat_lt room (suc (length d.pieces))) too_deep
@@ -205,11 +207,15 @@ module _ (texts : List (List ℕ)) (below : ℕ) (part : ℕ → Parts) where
   abbrev pub is_full : Declarations → Bool
   is_full ds = not (nat_lt (length ds.list) 32)
 
+  -- behind 32 parameters and a comma: `int x` is refused as one too many, and what no parameter begins with for what it is
+  unfoldable pub beyond_limit : Declarations → Parser Token Declarations
+  beyond_limit ds = choose makes_room (token unexpected makes_room >>= (λ t. parameter ds)) (barred_by too_many_parameters (reading texts ds.types) seat.Prototype)
+
   unfoldable pub another_parameter : Declarations → Parser Token Declarations
-  another_parameter ds = token unexpected (is_comma (reading texts ds.types)) >>= (λ t. choose (is_mark (reading texts ds.types) mark.Ellipsis) (refuse variable_arguments) (parameter ds))
+  another_parameter ds = if is_full ds then beyond_limit ds else parameter ds
 
   unfoldable pub next_parameter : Declarations → Parser Token Declarations
-  next_parameter ds = guard (is_full ds) too_many_parameters (another_parameter ds)
+  next_parameter ds = token unexpected (is_comma (reading texts ds.types)) >>= (λ t. choose (is_mark (reading texts ds.types) mark.Ellipsis) (refuse variable_arguments) (another_parameter ds))
 
   unfoldable pub parameters_at : List Name → Parser Token Declarations
   parameters_at types = parameter (record { list = []; types = types }) >>= looped (is_comma (reading texts types)) next_parameter

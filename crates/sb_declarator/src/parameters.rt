@@ -17,10 +17,10 @@ use crate::declarators::declarator_within;
 use crate::specifier_list::specifiers;
 use sb_base::{Name, Names, Place, Token};
 use sb_derivation::{
-    DeclList, Declarations, first_place, is_close_second, is_old_next, only_void, parameter_notes,
-    simple_decl, void_parameters, without_name,
+    DeclList, Declarations, beyond_limit, first_place, is_close_second, is_old_next, only_void,
+    parameter_notes, simple_decl, void_parameters, without_name,
 };
-use sb_lexicon::{Feature, Lexicon, Read, ReadFault, Reason, is_keyword_next};
+use sb_lexicon::{Feature, Lexicon, Read, ReadFault, is_keyword_next};
 use sb_sal::NoteList;
 use sb_sign::{Keyword, Mark};
 use sb_specifier::{Based, Seat, is_mark_next, take_mark};
@@ -120,9 +120,34 @@ fn parameter<'a>(
 
 // ---- lists of parameters
 
+/// One more parameter behind a comma, where 32 are not there yet.
+#[cycle(declaring)]
+#[tactic(auto, unfolding(crate::specs::Readers::another_parameter, crate::specs::Readers::beyond_limit), using(crate::proofs::steps::Parameters::count_of_decls))]
+fn another_parameter<'a>(
+    alloc: Global,
+    names: &Names,
+    below: u32,
+    so_far: Declarations,
+    tokens: &'a [Token],
+) -> Result<Read<'a, Declarations>, ReadFault>
+    requires shallow { below < 200 }
+    requires some { 1 ≤ below }
+    requires known { AreKnown so_far }
+    requires low { so_far.depth ≤ below + 1 }
+    ensures read { ReadsDeclarations
+        (inside spec.another_parameter names.now.texts below (plain_declarations so_far) tokens.now)
+        result }
+    ensures depth { IfOk result (λ r. r.value.depth ≤ below + 1) }
+{
+    if so_far.list.len() >= 32 {
+        return Err(beyond_limit(names, so_far.types.as_slice(), tokens));
+    }
+    parameter(alloc, names, below, so_far, tokens)
+}
+
 /// A comma and one more parameter, of at most 32.
 #[cycle(declaring)]
-#[tactic(auto, unfolding(crate::specs::Readers::next_parameter, crate::specs::Readers::another_parameter), using(crate::proofs::steps::Parameters::count_of_decls))]
+#[tactic(auto, unfolding(crate::specs::Readers::next_parameter))]
 fn next_parameter<'a>(
     alloc: Global,
     names: &Names,
@@ -139,14 +164,11 @@ fn next_parameter<'a>(
         result }
     ensures depth { IfOk result (λ r. r.value.depth ≤ below + 1) }
 {
-    if so_far.list.len() >= 32 {
-        return Err(ReadFault::at(Reason::TooManyParameters, tokens));
-    }
     let comma = take_mark(names, Mark::Comma, tokens)?;
     if is_mark_next(names, Mark::Ellipsis, comma.rest) {
         return Err(ReadFault::lacks(Feature::VariableArguments, comma.rest));
     }
-    parameter(alloc, names, below, so_far, comma.rest)
+    another_parameter(alloc, names, below, so_far, comma.rest)
 }
 
 /// As many commas as there are, each with one more parameter.

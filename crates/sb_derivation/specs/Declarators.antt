@@ -17,7 +17,7 @@ use Rattle.sb_operand.specs.Pieces.{Piece, Arrayed, depth_over}
 use Rattle.sb_lexicon.specs.Tokens as lexeme
 use Rattle.sb_operand.specs.Readers.{begins_abstract}
 use Rattle.sb_lexicon.specs.Tokens.{unexpected, too_deep, is_open, is_close, is_open_bracket, is_close_bracket, is_comma}
-use Rattle.sb_sal.specs.Spellings.{begins_note}
+use Rattle.sb_sal.specs.Spellings.{begins_note, is_listed}
 use Rattle.sb_derivation.specs.declared.declarator.Declarator as declared_declarator
 use Rattle.sb_specifier.specs.declared.seat.Seat.TheVariants as seat
 use Rattle.sb_specifier.specs.Sizes.{array_size}
@@ -53,8 +53,12 @@ ReadsDeclarator types o (Err e) = IsFault o e
 abbrev pub is_plain_name : Lexicon → Token → Bool
 is_plain_name w t = is_name w t && not (is_type_name w t || begins_note w t)
 
+-- a name that is no type and no listed annotation
+abbrev pub is_inner_name : Lexicon → Token → Bool
+is_inner_name w t = is_name w t && not (is_type_name w t || is_listed w t)
+
 abbrev pub begins_inner : Lexicon → Token → Bool
-begins_inner w t = begins_abstract w t || is_plain_name w t
+begins_inner w t = begins_abstract w t || is_inner_name w t
 
 abbrev pub goes_on_parameters : Lexicon → Token → Bool
 goes_on_parameters w t = is_close w t || begins_parameter w t

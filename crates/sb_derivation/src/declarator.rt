@@ -12,7 +12,7 @@ ghost use Rattle.sb_specifier.specs.Specified as specified;
 use sb_base::{Name, Place, Token};
 use sb_lexicon::{Lexicon, Read, ReadFault, is_mark, is_type_name, name_of};
 use sb_operand::{Piece, Pieces, pointing};
-use sb_sal::begins_note;
+use sb_sal::{begins_note, is_listed};
 use sb_sign::Mark;
 use sb_specifier::{begins_parameter, is_name_next, take_name};
 use std::alloc::{AllocError, Global};
@@ -162,6 +162,14 @@ pub(crate) fn is_plain_name(lexicon: &Lexicon, token: &Token) -> bool
         && !(is_type_name(lexicon, token) || begins_note(lexicon, token))
 }
 
+/// Whether a token is a name that is no type and no listed annotation.
+fn is_inner_name(lexicon: &Lexicon, token: &Token) -> bool
+    ensures { result ≡ part.is_inner_name (meant lexicon.now) token.now }
+{
+    name_of(lexicon, token).is_some()
+        && !(is_type_name(lexicon, token) || is_listed(lexicon, token))
+}
+
 /// Whether a declarator begins behind the parenthesis of a parameter.
 pub fn is_inner_next(lexicon: &Lexicon, tokens: &[Token]) -> bool
     ensures { result ≡ at_next (part.begins_inner (meant lexicon.now)) tokens.now }
@@ -171,7 +179,7 @@ pub fn is_inner_next(lexicon: &Lexicon, tokens: &[Token]) -> bool
             is_mark(lexicon, Mark::Star, token)
                 || is_mark(lexicon, Mark::OpenParenthesis, token)
                 || is_mark(lexicon, Mark::OpenBracket, token)
-                || is_plain_name(lexicon, token)
+                || is_inner_name(lexicon, token)
         }
         None => false,
     }

@@ -19,6 +19,6 @@ pub use declarator::{
 pub use members::{
     DeclList, Declarations, FoundDecl, Heading, member_notes, notes_again, with_decl,
 };
-pub use parameters::{first_place, parameter_notes, without_name};
+pub use parameters::{beyond_limit, first_place, parameter_notes, without_name};
 pub use untyped::Untyped;
 pub use void::{is_close_second, is_old_next, only_void, void_parameters};

@@ -1,16 +1,22 @@
-//! The annotations of parameters, their places and their names (C99 6.7.5.3).
-ghost use Rattle.std.specs.Prelude.{◌≡◌, ◌≤◌, ◌<◌, ◌-◌, [], IfOk};
+//! The annotations of parameters, their places and their names, and what may not follow them (C99 6.7.5.3).
+ghost use Rattle.std.specs.Prelude.{◌≡◌, ◌≤◌, ◌<◌, ◌-◌, [], false, IfOk};
+ghost use Rattle.sb_parse.specs.Parser.{at_next};
+ghost use Rattle.sb_lexicon.specs.Meaning.{meant, IsFault};
+ghost use Rattle.sb_lexicon.specs.Tokens.{too_many_parameters};
 ghost use Rattle.sb_sal.specs.declared.bearer.Bearer.TheVariants as bearer;
 ghost use Rattle.sb_sal.specs.Meaning.{ReadsNotes};
 ghost use Rattle.sb_sal.specs.Readers.{notes_reader};
 ghost use Rattle.sb_sal.specs.Spellings.{may_stand};
 ghost use Rattle.sb_derivation.specs.Declarators as part;
+ghost use Rattle.sb_specifier.specs.declared.seat.Seat.TheVariants as seat;
+ghost use Rattle.sb_specifier.specs.Parts.{none_follows};
+ghost use Rattle.sb_specifier.specs.Readers.{makes_room};
 ghost use Rattle.sb_specifier.specs.Specified.{reading};
 
 use sb_base::{Name, Names, Place, Token};
-use sb_lexicon::{Lexicon, ReadFault};
+use sb_lexicon::{Lexicon, ReadFault, Reason};
 use sb_sal::{Bearer, NoteList, notes_within};
-use sb_specifier::{NOWHERE, hide};
+use sb_specifier::{NOWHERE, Seat, barred_by, hide};
 use std::alloc::Global;
 
 /// The annotations of a parameter.
@@ -56,4 +62,32 @@ pub fn without_name(name: Option<(Name, Place)>, types: Vec<Name>) -> Vec<Name>
         hide(&mut left, hidden);
     }
     left
+}
+
+/// The refusal of tokens, of which this is the first, behind 32 parameters and a comma. Its text is a number of 32 bits, so
+/// it makes no room for one more.
+#[tactic(auto, using(crate::proofs::steps::Parameters::no_room))]
+fn refused_at(lexicon: &Lexicon, _first: Token, tokens: &[Token]) -> ReadFault
+    ensures none { makes_room _first ≡ false }
+    ensures fault { IsFault (none_follows too_many_parameters (meant lexicon.now) seat.Prototype
+        tokens.now) result }
+{
+    barred_by(Reason::TooManyParameters, lexicon, Seat::Prototype, tokens)
+}
+
+/// The refusal of what stands behind 32 parameters and a comma.
+pub fn beyond_limit(names: &Names, types: &[Name], tokens: &[Token]) -> ReadFault
+    ensures none { at_next makes_room tokens.now ≡ false }
+    ensures fault { IsFault (none_follows too_many_parameters
+        (reading names.now.texts types.now) seat.Prototype tokens.now) result }
+{
+    let lexicon = Lexicon {
+        names,
+        types,
+        in_note: false,
+    };
+    match tokens.first() {
+        Some(first) => refused_at(&lexicon, *first, tokens),
+        None => ReadFault::at_end(),
+    }
 }

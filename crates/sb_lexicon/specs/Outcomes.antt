@@ -1,5 +1,5 @@
 -- What a call answers where tokens are read: the refusal of a stop, and in the subject's words the longest text or why there is none.
-use Rattle.std.specs.Prelude.{◌≡◌, ◌⊎◌, ℕ, ◌-◌, ◌+◌, ◌||◌, true, false, List, [], ◌∷◌, ◌++◌, length, drop, max, nat_eq, nat_lt, slice_get, Result, Ok, Err, if◌then◌else◌}
+use Rattle.std.specs.Prelude.{◌≡◌, ◌⊎◌, ℕ, ◌-◌, ◌+◌, ◌||◌, true, false, List, [], ◌∷◌, ◌++◌, length, drop, max, nat_lt, slice_get, Result, Ok, Err, if◌then◌else◌}
 use Rattle.std.specs.Option.{option_map_or}
 use Rattle.sb_base.specs.declared.interning.Name.{Name}
 use Rattle.sb_base.specs.declared.refusals.Place.{Place}
@@ -22,9 +22,9 @@ GoesOn Is front (t ∷ rest) = CanBegin Is (front ++ (t ∷ []))
 -- ---- refusals
 
 -- The number of a refusal by that of a stop. From 100 on a stop names a feature that is left out; from 1,000 on the tokens show that an argument that began so many tokens before is of another kind;
--- 2,000 is a comma behind which a parameter too many begins; from 2,001 on the tokens show that a word so many tokens before is no annotation, and from 3,000 on that an annotation so many tokens before may not stand there.
+-- from 2,001 on the tokens show that a word so many tokens before is no annotation, and from 3,000 on that an annotation so many tokens before may not stand there.
 abbrev pub number_of : ℕ → ℕ
-number_of n = if nat_lt n 100 then n else (if nat_lt n 1000 then 33 else (if nat_lt n 2000 then 35 else (if nat_eq n 2000 then 38 else (if nat_lt n 3000 then 36 else 37))))
+number_of n = if nat_lt n 100 then n else (if nat_lt n 1000 then 33 else (if nat_lt n 2000 then 35 else (if nat_lt n 3000 then 36 else 37)))
 
 -- the feature that a refusal names, or 0
 abbrev pub feature_of : ℕ → ℕ
@@ -35,9 +35,8 @@ abbrev pub left_of : ℕ → ℕ → ℕ
 left_of n left =
     if nat_lt n 1000 then left
     else (if nat_lt n 2000 then left + (n - 1000)
-    else (if nat_eq n 2000 then left - 1
     else (if nat_lt n 3000 then left + (n - 2000)
-    else left + (n - 3000))))
+    else left + (n - 3000)))
 
 abbrev pub nowhere : Place
 nowhere = record { file = 0; line = 0; col = 0 }

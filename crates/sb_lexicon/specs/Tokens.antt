@@ -61,9 +61,9 @@ misplaced = 37
 abbrev pub misplaced_before : ℕ → ℕ
 misplaced_before count = 3000 + count
 
--- a comma behind which a parameter too many begins
+-- a token that begins a parameter too many
 abbrev pub too_many_parameters : ℕ
-too_many_parameters = 2000
+too_many_parameters = 38
 
 abbrev pub is_zero : ℕ → Bool
 is_zero zero = true

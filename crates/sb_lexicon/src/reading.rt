@@ -53,7 +53,7 @@ pub enum Reason {
     Misplaced,
     /// The token shows that the annotation so many tokens before may not stand there.
     MisplacedBefore(usize),
-    /// Behind this comma a parameter too many begins.
+    /// A parameter too many begins.
     TooManyParameters,
 }
 

@@ -68,7 +68,6 @@ impl Reason {
             Reason::ArgumentBefore(count) => place_before(tokens, left, count as usize),
             Reason::UnknownAnnotationBefore => place_before(tokens, left, 1),
             Reason::MisplacedBefore(count) => place_before(tokens, left, count),
-            Reason::TooManyParameters => place_at(tokens, left.saturating_sub(1)),
             _ => place_at(tokens, left),
         }
     }

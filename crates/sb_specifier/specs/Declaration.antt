@@ -18,11 +18,11 @@ use Rattle.sb_operand.specs.Pieces.{Pointed, Arrayed, Called, Grouped, typed, co
 use Rattle.sb_lexicon.specs.Words.{Said, Nothing, Whole, said_after}
 use Rattle.sb_sal.specs.Notes.{AreNotes}
 use Rattle.sb_sal.specs.declared.bearer.Bearer.TheVariants as bearer
-use Rattle.sb_sal.specs.Spellings.{begins_note, may_stand}
+use Rattle.sb_sal.specs.Spellings.{is_listed, may_stand}
 use Rattle.sb_specifier.specs.declared.seat.Seat.{Seat}
 use Rattle.sb_specifier.specs.declared.seat.Seat.TheVariants as seat
 use Rattle.sb_specifier.specs.Specified.{without, reading, Specified, unspecified, saying, constantly, stored, scoped, storage_in, base_of, again, is_function, is_bare}
-use Rattle.sb_specifier.specs.Readers.{Declarator, Declarations, with_pieces, is_structure, name_in, place_in}
+use Rattle.sb_specifier.specs.Readers.{Declarator, Declarations, with_pieces, is_structure, makes_room, name_in, place_in}
 
 -- ---- constants of enumerations (6.7.2.2): the typedef names in force before and behind them, and whether a comma stands behind the last
 
@@ -51,12 +51,14 @@ pub data IsTag (w : Lexicon) (k : Keyword) : List Token → Option Name → Plac
   -- 6.7.2.3
   is_tagged : (t n : Token) (tag : Name) → is_keyword w k t ≡ true → name_of w n ≡ Some tag → IsTag w k (t ∷ (n ∷ [])) (Some tag) n.place
 
--- what may stand before the size of a parameter's outermost array, and whether `static` is among it
+-- what may stand before the size of a parameter's outermost array, and whether `static` is among it; qualifiers stand on one side of it (6.7.5 paragraph 1)
 pub data AreSizeWords (w : Lexicon) : List Token → Bool → Type 0 where
-  no_size_words : AreSizeWords w [] false
-  a_qualifier : (t : Token) (ts : List Token) (b : Bool) → AreSizeWords w ts b → is_keyword w keyword.Const t ≡ true → AreSizeWords w (ts ++ (t ∷ [])) b
-  a_restrict : (t : Token) (ts : List Token) (b : Bool) → AreSizeWords w ts b → is_keyword w keyword.Restrict t ≡ true → AreSizeWords w (ts ++ (t ∷ [])) b
-  a_static : (t : Token) (ts : List Token) → AreSizeWords w ts false → is_keyword w keyword.Static t ≡ true → AreSizeWords w (ts ++ (t ∷ [])) true
+  -- `[const 3]`, `[]`
+  no_static : (ts : List Token) (c : Bool) → AreQualifiers w false ts c → AreSizeWords w ts false
+  -- `[static const 3]`
+  static_first : (t : Token) (ts : List Token) (c : Bool) → is_keyword w keyword.Static t ≡ true → AreQualifiers w false ts c → AreSizeWords w (t ∷ ts) true
+  -- `[const static 3]`
+  static_last : (t : Token) (ts : List Token) (c : Bool) → AreQualifiers w false ts c → is_keyword w keyword.Static t ≡ true → AreSizeWords w (ts ++ (t ∷ [])) true
 
 -- ---- specifiers, declarators, members and parameters
 
@@ -75,9 +77,10 @@ abbrev pub hidden_by : Option (Name × Place) → List Name → List Name
 hidden_by None types = types
 hidden_by (Some p) types = without p.0 types
 
+-- The parameter `int (_Tag)` has the name `_Tag`, and `int (_In_ int)` is a function: a word that only looks like an annotation is a name there, and a listed one begins a parameter.
 pub data BeginsDeclarator (w : Lexicon) : Bool → List Token → Type 0 where
   has_name : (ts : List Token) → BeginsDeclarator w false ts
-  may_have_none : (t : Token) (ts : List Token) → is_type_name w t ≡ false → begins_note w t ≡ false → BeginsDeclarator w true (t ∷ ts)
+  may_have_none : (t : Token) (ts : List Token) → is_type_name w t ≡ false → is_listed w t ≡ false → BeginsDeclarator w true (t ∷ ts)
 
 -- with `static` a size has to be there
 pub data IsSizeOf (w : Lexicon) : Bool → List Token → OptionalExpr → Type 0 where
@@ -184,6 +187,9 @@ mutual
     -- 6.7.5.3
     parameter_behind : (types now : List Name) (xs ys : List Token) (c : Token) (ds : Declarations) (d : DeclTree) → is_mark (reading texts ds.types) mark.Comma c ≡ true → AreSome texts types xs ds
         → suc (length ds.list) ≤ 32 → IsParameter texts ds.types ys d now → AreSome texts types (xs ++ (c ∷ ys)) (record { list = ds.list ++ (d ∷ []); types = now })
+    -- behind 32 parameters one more, where a token that no file spells makes room
+    parameter_beyond : (types now : List Name) (xs ys : List Token) (c m : Token) (ds : Declarations) (d : DeclTree) → is_mark (reading texts ds.types) mark.Comma c ≡ true → AreSome texts types xs ds
+        → 32 ≤ length ds.list → makes_room m ≡ true → IsParameter texts ds.types ys d now → AreSome texts types (xs ++ (c ∷ (m ∷ ys))) (record { list = ds.list ++ (d ∷ []); types = now })
 
   pub data IsParameter (texts : List (List ℕ)) : List Name → List Token → DeclTree → List Name → Type 0 where
     -- 6.7.5.3, 6.7.6

@@ -17,7 +17,7 @@ use Rattle.sb_lexicon.specs.SpecifierReaders.{is_floating, is_union, is_complex}
 use Rattle.sb_lexicon.specs.Tokens.{unexpected, too_deep, is_zero, is_comma, is_open_brace}
 use Rattle.sb_lexicon.specs.Words.{Whole, is_nothing}
 use Rattle.sb_specifier.specs.declared.seat.Seat.{Seat}
-use Rattle.sb_specifier.specs.Readers.{Declarations, Items, barred, is_assign, is_close_brace, is_name, is_storage_word, name_at, storage_after, word_after, is_structure}
+use Rattle.sb_specifier.specs.Readers.{Declarations, Items, barred, barred_by, is_assign, is_close_brace, is_name, is_storage_word, name_at, storage_after, word_after, is_structure}
 use Rattle.sb_specifier.specs.Specified.{Specified, without, reading, saying, constantly, scoped, one_if, depth_said, is_tag_alone}
 
 -- ---- enumerations
@@ -93,6 +93,10 @@ completed s None = refuse unexpected
 completed s (Some t) = pure (s, t)
 
 -- ---- declarations
+
+-- where no declaration of a seat may follow
+abbrev pub none_follows : ℕ → Lexicon → Seat → Parser Token Declarations
+none_follows = barred_by
 
 -- where no declaration of a seat has room
 abbrev pub no_declaration : Lexicon → Seat → Parser Token Declarations

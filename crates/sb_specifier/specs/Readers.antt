@@ -1,4 +1,4 @@
--- The readers of specifiers, as functions on the tokens that are left, and what those of declarators and declarations share with them. Beside the numbers of the readers of expressions and annotations a stop has 2000 for a comma behind which a parameter too many begins,
+-- The readers of specifiers, as functions on the tokens that are left, and what those of declarators and declarations share with them. Beside the numbers of the readers of expressions and annotations a stop has 38 for a token that begins a parameter too many,
 -- and 3000 and a count where the tokens show that an annotation that began so many tokens before may not stand there.
 use Rattle.std.specs.Prelude.{ℕ, suc, ◌+◌, ◌-◌, ◌^◌, Bool, true, false, ◌&&◌, ◌||◌, not, List, [], ◌∷◌, ◌++◌, nat_lt, Option, Some, None, is_some, if◌then◌else◌}
 use Rattle.std.specs.Option.{option_map_or}
@@ -95,6 +95,10 @@ begins_at w seat.Scope t = begins_declaration w t
 begins_at w seat.Structure t = begins_type w t || begins_note w t
 begins_at w seat.Prototype t = begins_parameter w t
 
+-- the token behind a declarator shows that what is declared is no function, or that it is done
+abbrev pub shows_object : Lexicon → Token → Bool
+shows_object w t = is_comma w t || (is_semicolon w t || (is_assign w t || is_open_brace w t))
+
 -- Behind a declarator, or the specifiers of a nameless declaration, on which the annotations may not stand this token pardons them. No file spells it: it is there so that such a declaration goes on with something.
 abbrev pub is_pardon : Token → Bool
 is_pardon t = is_header t.kind && nat_lt (2 ^ 33) t.text.0
@@ -103,17 +107,25 @@ is_pardon t = is_header t.kind && nat_lt (2 ^ 33) t.text.0
 abbrev pub ends_nameless : Lexicon → Token → Bool
 ends_nameless w t = is_semicolon w t || is_pardon t
 
--- where no declaration of a seat has room
-abbrev pub barred : {A : Type 0} → Lexicon → Seat → Parser Token A
-barred w seat =
+-- Where no declaration of a seat may follow: what its first token would be refused for, and number n where one may begin with it. With n = 38 `float x` is refused by 33, `_Foo_ int x` by 36, `_Ret_z_ char *x` of a parameter by 37, `x` by 31, and `int x` by 38.
+abbrev pub barred_by : {A : Type 0} → ℕ → Lexicon → Seat → Parser Token A
+barred_by n w seat =
     choose (is_unlisted w) (refuse unknown)
     (choose (λ t. is_listed w t && not (may_stand w (bearer_at seat) t)) (refuse misplaced)
     (choose (is_floating w Nothing) (refuse expr.floating)
     (choose (is_union w Nothing) (refuse expr.union)
     (choose (is_keyword w keyword.Volatile) (refuse expr.volatile)
     (choose (is_complex w Nothing) (refuse expr.complex)
-    (choose (begins_at w seat) (refuse too_deep)
+    (choose (begins_at w seat) (refuse n)
     (refuse unexpected)))))))
+
+-- where no declaration of a seat has room
+abbrev pub barred : {A : Type 0} → Lexicon → Seat → Parser Token A
+barred w seat = barred_by too_deep w seat
+
+-- Behind the comma that follows 32 parameters this token lets one more stand. No file spells it: it is there so that a list of parameters goes on with something behind that comma.
+abbrev pub makes_room : Token → Bool
+makes_room t = is_header t.kind && nat_lt (2 ^ 33) t.text.0
 
 abbrev pub name_at : Lexicon → Token → Option (Name × Place)
 name_at w t = option_map_or (λ n. Some (n, t.place)) (name_of w t) None

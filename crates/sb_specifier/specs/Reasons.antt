@@ -1,5 +1,5 @@
 -- Why a list of tokens is refused as a declaration.
-use Rattle.std.specs.Prelude.{◌≡◌, ℕ, suc, ◌+◌, Bool, true, false, ◌&&◌, ◌||◌, not, List, [], ◌∷◌, ◌++◌, length, drop, nat_eq, Result, Ok, Err, if◌then◌else◌}
+use Rattle.std.specs.Prelude.{◌≡◌, ◌≤◌, ℕ, suc, ◌+◌, Bool, true, false, ◌&&◌, ◌||◌, not, List, [], ◌∷◌, ◌++◌, length, drop, nat_eq, Result, Ok, Err, if◌then◌else◌}
 use Rattle.sb_base.specs.declared.interning.Name.{Name}
 use Rattle.sb_base.specs.declared.refusals.Refusal.{Refusal}
 use Rattle.sb_base.specs.declared.refusals.Stop.{Stop}
@@ -21,7 +21,7 @@ use Rattle.sb_sal.specs.Reasons.{IsNoteReason}
 use Rattle.sb_sal.specs.Spellings.{begins_note, is_listed, may_stand}
 use Rattle.sb_specifier.specs.Specified.{reading, declares_function, bearer_of}
 use Rattle.sb_specifier.specs.Declaration.{IsDeclarator, AreSome}
-use Rattle.sb_specifier.specs.Readers.{Declarator, Declarations, is_assign, is_name, is_semicolon, begins_declaration, begins_parameter, begins_designator, goes_on_void}
+use Rattle.sb_specifier.specs.Readers.{Declarator, Declarations, is_assign, is_name, is_semicolon, shows_object, begins_declaration, begins_parameter, begins_designator, goes_on_void, makes_room}
 
 -- a token that may show a feature that the profile leaves out: beside those of expressions and types bit-fields, variable arguments, definitions of the old style, designators
 
@@ -38,23 +38,33 @@ shows w feature t =
 abbrev pub needs_room : Lexicon → Token → Bool
 needs_room w t = begins_declaration w t || (begins_abstract w t || (is_open_brace w t || is_assign w t))
 
--- 32 parameters stand before a comma
+-- a token of the list makes room for a parameter more
+abbrev pub has_room : List Token → Bool
+has_room [] = false
+has_room (t ∷ ts) = makes_room t || has_room ts
+
+-- behind 32 parameters and a comma one more begins
 pub record AreTooMany (texts : List (List ℕ)) (front bad : List Token) : Type 0 where
   pub before : List Token
   pub parameters : List Token
-  pub rest : List Token
   pub comma : Token
+  pub first : Token
+  pub rest : List Token
   pub types : List Name
   pub trees : Declarations
-  pub split : front ≡ before ++ parameters
+  pub split : front ≡ before ++ (parameters ++ (comma ∷ []))
   pub are : AreSome texts types parameters trees
-  pub full : length trees.list ≡ 32
-  pub goes_on : bad ≡ comma ∷ rest
+  pub full : 32 ≤ length trees.list
+  -- more than 32 only in tokens that no file spells
+  pub just : has_room parameters ≡ false → length trees.list ≡ 32
   pub is_one : is_comma (reading texts trees.types) comma ≡ true
+  pub goes_on : bad ≡ first ∷ rest
+  pub begins : begins_parameter (reading texts trees.types) first ≡ true
 
--- the tokens behind annotations, at their end a declarator, or the token behind them declare something of this kind
+-- the tokens behind annotations, at their end a declarator, with the token behind it, or that token alone declare something of this kind
 pub data Declares (texts : List (List ℕ)) : Bearer → List Token → List Token → Type 0 where
-  a_name : (types : List Name) (functions : Bool) (before ts bad : List Token) (d : Declarator) → IsDeclarator texts types functions false ts d → Declares texts (bearer_of (declares_function d.pieces)) (before ++ ts) bad
+  a_name : (types : List Name) (functions : Bool) (before ts rest : List Token) (c : Token) (d : Declarator) → IsDeclarator texts types functions false ts d → shows_object (reading texts []) c ≡ true
+      → Declares texts (bearer_of (declares_function d.pieces)) (before ++ ts) (c ∷ rest)
   no_name : (shown rest : List Token) (c : Token) → is_semicolon (reading texts []) c ≡ true → Declares texts bearer.Object shown (c ∷ rest)
 
 -- an annotation that began so many tokens before may not stand on what is declared
@@ -72,7 +82,7 @@ pub record IsMisplaced (texts : List (List ℕ)) (front bad : List Token) (count
   pub declared : Bearer
   pub split : front ≡ before ++ ((ahead ++ (note ∷ others)) ++ shown)
   pub counted : suc (length others) + length shown ≡ count
-  pub are_notes : AreNotes (reading texts outer) (may_stand (reading texts outer) bearer.Any) (ahead ++ (note ∷ others)) notes
+  pub are_notes : AreNotes (reading texts outer) (may_stand (reading texts outer) bearer.Function) (ahead ++ (note ∷ others)) notes
   pub listed : is_listed (reading texts outer) note ≡ true
   pub not_there : may_stand (reading texts outer) declared note ≡ false
   pub declares : Declares texts declared shown bad

@@ -33,7 +33,7 @@ reading texts types = record { texts = texts; types = types; in_note = false }
 -- ---- where a declaration stands
 
 abbrev pub bearer_at : Seat → Bearer
-bearer_at seat.Scope = bearer.Any
+bearer_at seat.Scope = bearer.Function
 bearer_at seat.Structure = bearer.Member
 bearer_at seat.Prototype = bearer.Parameter
 

@@ -1,8 +1,8 @@
-//! Where a declaration has no room.
+//! Where no declaration may follow.
 ghost use Rattle.std.specs.Prelude.{◌≡◌};
 ghost use Rattle.sb_parse.specs.Parser.{at_next};
-ghost use Rattle.sb_lexicon.specs.Meaning.{meant, IsFault};
-ghost use Rattle.sb_specifier.specs.Parts.{no_declaration};
+ghost use Rattle.sb_lexicon.specs.Meaning.{meant, stop_number, IsFault};
+ghost use Rattle.sb_specifier.specs.Parts.{no_declaration, none_follows};
 ghost use Rattle.sb_specifier.specs.Readers as spec;
 ghost use Rattle.sb_specifier.specs.Specified.{bearer_at};
 
@@ -21,7 +21,7 @@ fn bearer_at(seat: Seat) -> Bearer
     ensures { result ≡ bearer_at seat }
 {
     match seat {
-        Seat::Scope => Bearer::Any,
+        Seat::Scope => Bearer::Function,
         Seat::Structure => Bearer::Member,
         Seat::Prototype => Bearer::Parameter,
     }
@@ -66,9 +66,10 @@ fn is_declaration_next(lexicon: &Lexicon, seat: Seat, tokens: &[Token]) -> bool
     }
 }
 
-/// The refusal of a declaration for which there is no room.
-pub fn barred(lexicon: &Lexicon, seat: Seat, tokens: &[Token]) -> ReadFault
-    ensures { IsFault (no_declaration (meant lexicon.now) seat tokens.now) result }
+/// The refusal where no declaration may follow: `reason` at a token with which one may begin.
+pub fn barred_by(reason: Reason, lexicon: &Lexicon, seat: Seat, tokens: &[Token]) -> ReadFault
+    ensures { IsFault (none_follows (stop_number reason) (meant lexicon.now) seat tokens.now)
+        result }
 {
     if is_unlisted_next(lexicon, tokens) {
         return ReadFault::at(Reason::UnknownAnnotation, tokens);
@@ -89,7 +90,14 @@ pub fn barred(lexicon: &Lexicon, seat: Seat, tokens: &[Token]) -> ReadFault
         return ReadFault::lacks(Feature::Complex, tokens);
     }
     if is_declaration_next(lexicon, seat, tokens) {
-        return ReadFault::too_deep(tokens);
+        return ReadFault::at(reason, tokens);
     }
     ReadFault::unexpected(tokens)
+}
+
+/// The refusal of a declaration for which there is no room.
+pub fn barred(lexicon: &Lexicon, seat: Seat, tokens: &[Token]) -> ReadFault
+    ensures { IsFault (no_declaration (meant lexicon.now) seat tokens.now) result }
+{
+    barred_by(Reason::TooDeep, lexicon, seat, tokens)
 }

@@ -10,7 +10,7 @@ mod tags;
 mod tokens;
 mod words;
 
-pub use barring::{barred, begins_declaration, begins_parameter};
+pub use barring::{barred, barred_by, begins_declaration, begins_parameter};
 pub use enumerations::{enumeration, room_inside};
 pub use seat::Seat;
 pub use sizes::array_size;

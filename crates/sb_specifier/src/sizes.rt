@@ -49,45 +49,53 @@ fn take_qualifier<'a>(lexicon: &Lexicon, tokens: &'a [Token]) -> Result<Read<'a,
     }
 }
 
-/// One word before the size of a parameter's outermost array; `fixed`: `static` was read.
+/// One word before the size of a parameter's outermost array; `qualified`: qualifiers stand before `static`;
+/// `fixed`: it was read.
 fn size_word<'a>(
     lexicon: &Lexicon,
+    qualified: bool,
     fixed: bool,
     tokens: &'a [Token],
-) -> Result<Read<'a, bool>, ReadFault>
-    ensures { Gives (spec.size_word (meant lexicon.now) fixed tokens.now) result }
+) -> Result<Read<'a, (bool, bool)>, ReadFault>
+    ensures { Gives (spec.size_word (meant lexicon.now) (qualified, fixed) tokens.now) result }
 {
     if is_first_static_next(lexicon, fixed, tokens) {
         let word = take_keyword(lexicon, Keyword::Static, tokens)?;
         return Ok(Read {
-            value: true,
+            value: (qualified, true),
             rest: word.rest,
         });
+    }
+    if qualified && fixed {
+        return Err(ReadFault::unexpected(tokens));
     }
     if is_keyword_next(lexicon, Keyword::Volatile, tokens) {
         return Err(ReadFault::lacks(Feature::Volatile, tokens));
     }
     let word = take_qualifier(lexicon, tokens)?;
     Ok(Read {
-        value: fixed,
+        value: (!fixed, fixed),
         rest: word.rest,
     })
 }
 
-/// As many such words as there are, and whether `static` is among them.
-fn size_words<'a>(lexicon: &Lexicon, tokens: &'a [Token]) -> Result<Read<'a, bool>, ReadFault>
+/// As many such words as there are, and whether `static` is among them, behind qualifiers or not.
+fn size_words<'a>(
+    lexicon: &Lexicon,
+    tokens: &'a [Token],
+) -> Result<Read<'a, (bool, bool)>, ReadFault>
     ensures { Gives (looped (spec.is_size_word (meant lexicon.now))
-        (spec.size_word (meant lexicon.now)) false tokens.now) result }
+        (spec.size_word (meant lexicon.now)) (false, false) tokens.now) result }
 {
     let mut found = Read {
-        value: false,
+        value: (false, false),
         rest: tokens,
     };
     for _turn in 0..tokens.len() {
         if !is_size_word_next(lexicon, found.rest) {
             return Ok(found);
         }
-        found = size_word(lexicon, found.value, found.rest)?;
+        found = size_word(lexicon, found.value.0, found.value.1, found.rest)?;
     }
     Ok(found)
 }
@@ -160,9 +168,9 @@ pub fn array_size<'a>(
     if !outermost {
         return optional_size(alloc, lexicon, count, below, tokens);
     }
-    let fixed = size_words(lexicon, tokens)?;
-    if fixed.value {
-        return size(alloc, lexicon, count, below, fixed.rest);
+    let found = size_words(lexicon, tokens)?;
+    if found.value.1 {
+        return size(alloc, lexicon, count, below, found.rest);
     }
-    optional_size(alloc, lexicon, count, below, fixed.rest)
+    optional_size(alloc, lexicon, count, below, found.rest)
 }

@@ -142,6 +142,9 @@ decreases-parameters::more_parameters l = 20000 * l.below + 9400
 abbrev pub decreases-parameters::next_parameter : goal.decreases-parameters::next_parameter
 decreases-parameters::next_parameter l = 20000 * l.below + 9300
 
+abbrev pub decreases-parameters::another_parameter : goal.decreases-parameters::another_parameter
+decreases-parameters::another_parameter l = 20000 * l.below + 9250
+
 abbrev pub decreases-parameters::parameter : goal.decreases-parameters::parameter
 decreases-parameters::parameter l = 20000 * l.below + 9200
 

@@ -18,7 +18,7 @@ use Rattle.sb_lexicon.proofs.Depths.{within_room, room_within, room_is}
 use Rattle.sb_parse.proofs.Descending.{descent_from}
 use Rattle.sb_lexicon.proofs.Wider.{Held, Wider}
 use Rattle.sb_sal.specs.Spellings.{begins_note}
-use Rattle.sb_sal.proofs.Deepening.{Past, AtMost, Shrinks, Deepens, Deep, at_list, at_lists, deep_choice, deep_still, most_stop, most_at, shrinks_pure, shrinks_refuse, shrinks_token, shrinks_then, past_bind, in_order, choosing, choosing_second, either_way, turning, turning_where, still_pure}
+use Rattle.sb_sal.proofs.Deepening.{Past, AtMost, Shrinks, Deepens, Deep, at_list, at_lists, deep_choice, deep_still, most_stop, most_at, shrinks_pure, shrinks_refuse, shrinks_token, shrinks_then, past_bind, in_order, choosing, choosing_second, either_way, turning, turning_where, still_pure, by_test}
 use Rattle.sb_sal.proofs.ExprDeepening.{expr_deepens}
 use Rattle.sb_sal.proofs.Lowered.{same_from, lowered, zero_mono, zero_open, room_mono, room_open, not_unexpected, not_lacking, expects, takes, unexpecting, lacking}
 use Rattle.sb_specifier.specs.declared.seat.Seat.TheVariants as seat
@@ -80,17 +80,17 @@ module _ (w : Lexicon) (functions may_lack : Bool) where
       unfolding sized
       sized_deepens k = choosing n (is_close_bracket w) _ _ (still_pure n tree.NoExpr) (size_deepens k)
 
-      word_deepens : (fixed : Bool) → Deepens n (λ m. size_word w functions may_lack m (part m) (m - c) (rest m) fixed)
+      word_deepens : (found : Bool × Bool) → Deepens n (λ m. size_word w functions may_lack m (part m) (m - c) (rest m) found)
       unfolding size_word
-      word_deepens fixed =
-          choosing n _ _ _ (in_order n _ _ (expects n (is_keyword w keyword.Static)) (λ t. still_pure n true))
-          (choosing n _ _ _ (lacking n 7) (in_order n _ _ (expects n (is_qualifier w)) (λ t. still_pure n fixed)))
+      word_deepens found =
+          choosing n _ _ _ (in_order n _ _ (expects n (is_keyword w keyword.Static)) (λ t. still_pure n (found.0, true)))
+          (by_test n (λ ts. found.0 && found.1) (λ m. refuse unexpected) _ (unexpecting n) (choosing n _ _ _ (lacking n 7) (in_order n _ _ (expects n (is_qualifier w)) (λ t. still_pure n (not found.1, found.1)))))
 
       outermost_deepens : (k : ℕ) → Deepens n (λ m. outermost_size w functions may_lack m (part m) (m - c) (rest m) k)
       unfolding outermost_size
       outermost_deepens k =
-          in_order n _ _ (turning n (is_size_word w functions may_lack n (part n) (n - c) (rest n)) (λ m. size_word w functions may_lack m (part m) (m - c) (rest m)) word_deepens false)
-          (λ fixed. either_way n fixed _ _ (λ h. size_deepens k) (λ h. sized_deepens k))
+          in_order n _ _ (turning n (is_size_word w functions may_lack n (part n) (n - c) (rest n)) (λ m. size_word w functions may_lack m (part m) (m - c) (rest m)) word_deepens (false, false))
+          (λ found. either_way n found.1 _ _ (λ h. size_deepens k) (λ h. sized_deepens k))
 
       bracketed_deepens : (d : Declarator) (o : Token) → Deepens n (λ m. bracketed w functions may_lack m (part m) (params_shrink m) (m - c) (rest m) (RestShrinks m) d o)
       bracketed_deepens d o =

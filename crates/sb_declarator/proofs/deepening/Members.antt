@@ -2,21 +2,21 @@
 use Rattle.std.proofs.Common.{◌≡◌, ◌≤◌, ◌-◌, ℕ, Bool, true, false, not, List, [], ◌∷◌, length, take, nat_lt, refl, ap, ◌∙◌}
 use Rattle.sb_base.specs.declared.interning.Name.{Name}
 use Rattle.sb_base.specs.declared.tokens.Token.{Token}
-use Rattle.sb_parse.specs.Parser.{Outcome, Parser, done, stop, refuse, token, looped}
+use Rattle.sb_parse.specs.Parser.{Outcome, Parser, done, stop, ◌>>=◌, choose, refuse, token, looped}
 use Rattle.sb_sign.specs.declared.sign.Mark.TheVariants as mark
 use Rattle.sb_tree.specs.Trees.{TypeTree, DeclTree, NoteTree}
 use Rattle.sb_lexicon.specs.Lexicon.{is_mark}
-use Rattle.sb_lexicon.specs.Tokens.{unexpected, too_deep, too_many_parameters, is_comma, is_colon}
+use Rattle.sb_lexicon.specs.Tokens.{unexpected, too_deep, floating, union, volatile, complex, unknown, misplaced, too_many_parameters, is_comma, is_colon}
 use Rattle.sb_sal.specs.declared.bearer.Bearer.TheVariants as bearer
 use Rattle.sb_sal.specs.Readers.{notes_reader}
 use Rattle.sb_sal.specs.Spellings.{may_stand}
-use Rattle.sb_sal.proofs.Deepening.{Past, read_past, stopped_past, AtMost, Shrinks, Deepens, most_done, most_stop, most_at, shrinks_at, still_pure, still_refuse, still_token, in_order, choosing, by_test, turning}
+use Rattle.sb_sal.proofs.Deepening.{Past, read_past, stopped_past, AtMost, Shrinks, Deepens, most_done, most_stop, most_at, shrinks_at, still_pure, still_refuse, still_token, in_order, choosing, either_way, turning}
 use Rattle.sb_specifier.specs.declared.seat.Seat.{Seat}
 use Rattle.sb_specifier.specs.declared.seat.Seat.TheVariants as seat
 use Rattle.sb_specifier.specs.Specified.{reading, again}
 use Rattle.sb_parse.specs.Texts.{with_front, with_text}
-use Rattle.sb_specifier.specs.Readers.{is_close_brace, is_semicolon, bit_field, variable_arguments, Declarations, Parts, specifiers}
-use Rattle.sb_declarator.specs.Readers.{on, member_declarator, next_member, member, members, parameter, another_parameter, next_parameter, parameters_at}
+use Rattle.sb_specifier.specs.Readers.{barred_by, is_close_brace, is_semicolon, makes_room, bit_field, variable_arguments, Declarations, Parts, specifiers}
+use Rattle.sb_declarator.specs.Readers.{on, member_declarator, next_member, member, members, parameter, beyond_limit, another_parameter, next_parameter, parameters_at}
 use Rattle.sb_declarator.proofs.widening.Members.{text_wider}
 
 -- ---- the tokens that were read stand beside the value
@@ -88,16 +88,28 @@ module _ (texts : List (List ℕ)) (n : ℕ) (part : ℕ → ℕ → Parts)
       in_order n (λ m. with_text (specifiers texts seat.Prototype m (part m) ds.types)) _ (text_deepens n (λ m. specifiers texts seat.Prototype m (part m) ds.types) (Specifiers seat.Prototype ds.types)) (λ s.
       in_order n (λ m. on texts m (part m) s.0.0.types false true s.0.1) _ (Declarators s.0.0.types false true s.0.1) (λ d. still_pure n _)))
 
+  -- a refusal that no depth mends
+  refused_deepens : (k : ℕ) → ((k ≡ too_deep) → ⊥) → (goes : Token → Bool) (r : ℕ → Parser Token Declarations) → Deepens n r → Deepens n (λ m. choose goes (refuse k) (r m))
+  refused_deepens k other goes r R = choosing n goes (λ m. refuse k) r (still_refuse n k other) R
+
+  beyond_deepens : (ds : Declarations) → Deepens n (λ m. beyond_limit texts m (part m) ds)
+  unfolding beyond_limit
+  beyond_deepens ds =
+      choosing n makes_room (λ m. token unexpected makes_room >>= (λ t. parameter texts m (part m) ds)) (λ m. barred_by too_many_parameters (reading texts ds.types) seat.Prototype)
+      (in_order n (λ m. token unexpected makes_room) _ (still_token n unexpected makes_room (λ e. cc e)) (λ t. parameter_deepens ds))
+      (refused_deepens unknown (λ e. cc e) _ _ (refused_deepens misplaced (λ e. cc e) _ _ (refused_deepens floating (λ e. cc e) _ _ (refused_deepens union (λ e. cc e) _ _ (refused_deepens volatile (λ e. cc e) _ _
+      (refused_deepens complex (λ e. cc e) _ _ (refused_deepens too_many_parameters (λ e. cc e) _ _ (still_refuse n unexpected (λ e. cc e)))))))))
+
   another_deepens : (ds : Declarations) → Deepens n (λ m. another_parameter texts m (part m) ds)
   unfolding another_parameter
   another_deepens ds =
-      in_order n (λ m. token unexpected (is_comma (reading texts ds.types))) _ (still_token n unexpected (is_comma (reading texts ds.types)) (λ e. cc e))
-      (λ t. choosing n (is_mark (reading texts ds.types) mark.Ellipsis) (λ m. refuse variable_arguments) (λ m. parameter texts m (part m) ds) (still_refuse n variable_arguments (λ e. cc e)) (parameter_deepens ds))
+      either_way n (not (nat_lt (length ds.list) 32)) (λ m. beyond_limit texts m (part m) ds) (λ m. parameter texts m (part m) ds) (λ h. beyond_deepens ds) (λ h. parameter_deepens ds)
 
   next_parameter_deepens : (ds : Declarations) → Deepens n (λ m. next_parameter texts m (part m) ds)
   unfolding next_parameter
   next_parameter_deepens ds =
-      by_test n (λ ts. not (nat_lt (length ds.list) 32)) (λ m. refuse too_many_parameters) (λ m. another_parameter texts m (part m) ds) (still_refuse n too_many_parameters (λ e. cc e)) (another_deepens ds)
+      in_order n (λ m. token unexpected (is_comma (reading texts ds.types))) _ (still_token n unexpected (is_comma (reading texts ds.types)) (λ e. cc e))
+      (λ t. choosing n (is_mark (reading texts ds.types) mark.Ellipsis) (λ m. refuse variable_arguments) (λ m. another_parameter texts m (part m) ds) (still_refuse n variable_arguments (λ e. cc e)) (another_deepens ds))
 
   pub parameters_deepen : (types : List Name) → Deepens n (λ m. parameters_at texts m (part m) types)
   unfolding parameters_at

@@ -8,19 +8,19 @@ use Rattle.sb_sign.specs.declared.sign.Keyword.{Keyword}
 use Rattle.sb_sign.specs.declared.sign.Keyword.TheVariants as keyword
 use Rattle.sb_tree.specs.Trees.{TypeTree, depth_of_type}
 use Rattle.sb_lexicon.specs.Lexicon.{is_keyword}
-use Rattle.sb_lexicon.specs.Tokens.{unexpected, too_deep, too_many_parameters, is_open_brace}
+use Rattle.sb_lexicon.specs.Tokens.{unexpected, too_deep, is_open_brace}
 use Rattle.sb_lexicon.specs.Words.{Whole}
 use Rattle.sb_lexicon.proofs.Depths.{within_room}
 use Rattle.sb_sal.specs.declared.bearer.Bearer.TheVariants as bearer
 use Rattle.sb_sal.specs.Readers.{notes_reader}
 use Rattle.sb_sal.specs.Spellings.{may_stand}
-use Rattle.sb_sal.proofs.Deepening.{Past, Shrinks, enters, shrinks_pure, shrinks_refuse, shrinks_token, shrinks_taken, shrinks_then, shrinks_choose, shrinks_guard, shrinks_looped, shrinks_by_law}
+use Rattle.sb_sal.proofs.Deepening.{Past, Shrinks, enters, shrinks_pure, shrinks_refuse, shrinks_token, shrinks_taken, shrinks_then, shrinks_choose, shrinks_either, shrinks_guard, shrinks_looped, shrinks_by_law}
 use Rattle.sb_sal.proofs.NoteDeepening.{notes_deepen}
 use Rattle.sb_specifier.specs.declared.seat.Seat.{Seat}
 use Rattle.sb_specifier.specs.declared.seat.Seat.TheVariants as seat
 use Rattle.sb_specifier.specs.Specified.{Specified, reading, saying, constantly, unspecified, base_of, one_if}
 use Rattle.sb_specifier.specs.Readers.{lexicon, name_at, Declarations, Parts, enumeration, structure, tagged, no_room_for_const, past_tag, tagless, specified, is_specifier_word, keyword_specifiers, defined, completed, specifiers}
-use Rattle.sb_declarator.specs.Readers.{on, parameter, another_parameter, next_parameter}
+use Rattle.sb_declarator.specs.Readers.{on, parameter, beyond_limit, another_parameter, next_parameter}
 use Rattle.sb_declarator.proofs.deepening.Shrinks.{declarators_shrink}
 use Rattle.sb_specifier.proofs.laws.Enumerations.{items_law}
 use Rattle.sb_declarator.proofs.deepening.Members.{shrinks_text}
@@ -133,8 +133,17 @@ module _ (texts : List (List ℕ)) (m : ℕ) (part : ℕ → Parts) (Members : (
       shrinks_then _ _ (shrinks_text _ (specifiers_shrink texts seat.Prototype m part Members ds.types)) (λ s.
       shrinks_then _ _ (on_shrinks s.0.0.types false true s.0.1) (λ d. shrinks_pure _)))
 
+  beyond_shrinks : (ds : Declarations) → Shrinks (beyond_limit texts m part ds)
+  unfolding beyond_limit
+  beyond_shrinks ds =
+      shrinks_choose _ _ _ (shrinks_then _ _ (shrinks_token _ _) (λ t. parameter_shrinks ds))
+      (shrinks_choose _ _ _ (shrinks_refuse _) (shrinks_choose _ _ _ (shrinks_refuse _) (shrinks_choose _ _ _ (shrinks_refuse _) (shrinks_choose _ _ _ (shrinks_refuse _)
+      (shrinks_choose _ _ _ (shrinks_refuse _) (shrinks_choose _ _ _ (shrinks_refuse _) (shrinks_choose _ _ _ (shrinks_refuse _) (shrinks_refuse _))))))))
+
+  pub another_shrinks : (ds : Declarations) → Shrinks (another_parameter texts m part ds)
+  unfolding another_parameter
+  another_shrinks ds = shrinks_either (not (nat_lt (length ds.list) 32)) _ _ (λ h. beyond_shrinks ds) (λ h. parameter_shrinks ds)
+
   pub next_parameter_shrinks : (ds : Declarations) → Shrinks (next_parameter texts m part ds)
-  unfolding next_parameter another_parameter
-  next_parameter_shrinks ds =
-      shrinks_guard (not (nat_lt (length ds.list) 32)) too_many_parameters (another_parameter texts m part ds)
-      (λ h. shrinks_then _ _ (shrinks_token _ _) (λ t. shrinks_choose _ _ _ (shrinks_refuse _) (parameter_shrinks ds)))
+  unfolding next_parameter
+  next_parameter_shrinks ds = shrinks_then _ _ (shrinks_token _ _) (λ t. shrinks_choose _ _ _ (shrinks_refuse _) (another_shrinks ds))

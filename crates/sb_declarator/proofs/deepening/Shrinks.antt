@@ -76,15 +76,17 @@ module _ (w : Lexicon) (functions may_lack : Bool) where
       unfolding sized
       sized_shrinks k = shrinks_choose _ _ _ (shrinks_pure _) (size_shrinks k)
 
-      word_shrinks : (fixed : Bool) → Shrinks (size_word w functions may_lack m part room rest fixed)
+      word_shrinks : (found : Bool × Bool) → Shrinks (size_word w functions may_lack m part room rest found)
       unfolding size_word
-      word_shrinks fixed = shrinks_choose _ _ _ (shrinks_then _ _ (shrinks_token _ _) (λ t. shrinks_pure _)) (shrinks_choose _ _ _ (shrinks_refuse _) (shrinks_then _ _ (shrinks_token _ _) (λ t. shrinks_pure _)))
+      word_shrinks found =
+          shrinks_choose _ _ _ (shrinks_then _ _ (shrinks_token _ _) (λ t. shrinks_pure _))
+          (shrinks_guard (found.0 && found.1) _ _ (λ h. shrinks_choose _ _ _ (shrinks_refuse _) (shrinks_then _ _ (shrinks_token _ _) (λ t. shrinks_pure _))))
 
       outermost_shrinks : (k : ℕ) → Shrinks (outermost_size w functions may_lack m part room rest k)
       unfolding outermost_size
       outermost_shrinks k =
-          shrinks_then _ _ (shrinks_looped (is_size_word w functions may_lack m part room rest) (size_word w functions may_lack m part room rest) word_shrinks false)
-          (λ fixed. shrinks_either fixed _ _ (λ h. size_shrinks k) (λ h. sized_shrinks k))
+          shrinks_then _ _ (shrinks_looped (is_size_word w functions may_lack m part room rest) (size_word w functions may_lack m part room rest) word_shrinks (false, false))
+          (λ found. shrinks_either found.1 _ _ (λ h. size_shrinks k) (λ h. sized_shrinks k))
 
       -- behind a bracket
       abbrev pub bracketed : Declarator → Token → Parser Token Declarator

@@ -37,7 +37,7 @@ use Rattle.sb_sal.specs.Notes.{no_notes}
 use Rattle.sb_sal.specs.Spellings.{begins_note}
 use Rattle.sb_specifier.specs.declared.seat.Seat.TheVariants as seat
 use Rattle.sb_specifier.specs.Specified.{reading, unspecified, saying, names_tag}
-use Rattle.sb_specifier.specs.Declaration.{simple_decl, first_place, nowhere, hidden_by, IsDeclarator, is_direct, is_name, is_nameless, is_word, no_specifiers, more_specifiers, IsParameter, is_parameter, AreSome, first_parameter, parameter_behind, AreParameters, no_parameters, some_parameters}
+use Rattle.sb_specifier.specs.Declaration.{simple_decl, first_place, nowhere, hidden_by, IsDeclarator, is_direct, is_name, is_nameless, is_word, no_specifiers, more_specifiers, IsParameter, is_parameter, AreSome, first_parameter, parameter_behind, parameter_beyond, AreParameters, no_parameters, some_parameters}
 use Rattle.sb_specifier.specs.Readers as reader
 use Rattle.sb_declarator.specs.Readers as declarator
 use Rattle.sb_specifier.specs.Readers.{Declarator, Declarations, Parts, begins_declaration, is_specifier_word, old_definition}
@@ -74,6 +74,10 @@ parameter_depth texts _ _ _ _ (is_parameter types xs ys zs ns s base d noted are
 some_depth : (texts : List (List ℕ)) (types : List Name) (ts : List Token) (ds : Declarations) → AreSome texts types ts ds → 2 ≤ depth_of_decls (decl_list ds.list)
 some_depth texts _ _ _ (first_parameter types now ts d is) = let deep : 2 ≤ depth_of_decl d = parameter_depth texts types now ts d is in let last : depth_of_decl d ≤ depth_of_decls (decl_list (d ∷ [])) = last_depth [] d in omega arith
 some_depth texts _ _ _ (parameter_behind types now xs ys c ds d comma are few is) =
+    let deep : 2 ≤ depth_of_decl d = parameter_depth texts ds.types now ys d is in
+    let last : depth_of_decl d ≤ depth_of_decls (decl_list (ds.list ++ (d ∷ []))) = last_depth ds.list d in
+    omega arith
+some_depth texts _ _ _ (parameter_beyond types now xs ys c m ds d comma are full room is) =
     let deep : 2 ≤ depth_of_decl d = parameter_depth texts ds.types now ys d is in
     let last : depth_of_decl d ≤ depth_of_decls (decl_list (ds.list ++ (d ∷ []))) = last_depth ds.list d in
     omega arith

@@ -24,9 +24,9 @@ use Rattle.sb_parse.proofs.Descending.{descent_from, descent_step, descent_botto
 use Rattle.sb_lexicon.proofs.Lexemes.{mark_is, mark_alone, close_token, close_token_is}
 use Rattle.sb_operand.proofs.Putting.{InnerFits}
 use Rattle.sb_parse.proofs.Ways.{first_fails, second_fails, or_false, and_first, and_second, goes_on_where, following_where, perhaps_there, choice_else, Refuses, one_refuses, both_refuse, only_else, where_begun, closing, turns_law, turned_once_more}
-use Rattle.sb_sal.specs.Spellings.{begins_note}
+use Rattle.sb_sal.specs.Spellings.{arguments_in, begins_note, is_listed, word_of}
 use Rattle.sb_specifier.specs.Specified.{reading, is_function, is_bare}
-use Rattle.sb_specifier.specs.Declaration.{IsDeclarator, is_direct, is_pointer, IsDirect, is_name, is_nameless, is_in_parentheses, is_array, is_outermost, is_function_of, BeginsDeclarator, has_name, may_have_none, AreSizeWords, no_size_words, a_qualifier, a_restrict, a_static, IsSizeOf, a_fixed, a_free}
+use Rattle.sb_specifier.specs.Declaration.{IsDeclarator, is_direct, is_pointer, IsDirect, is_name, is_nameless, is_in_parentheses, is_array, is_outermost, is_function_of, BeginsDeclarator, has_name, may_have_none, AreSizeWords, no_static, static_first, static_last, IsSizeOf, a_fixed, a_free}
 use Rattle.sb_specifier.specs.Readers as reader
 use Rattle.sb_specifier.specs.Readers.{Declarator, Declarations, Parts, with_pieces, name_at, begins_parameter}
 use Rattle.sb_declarator.specs.Readers.{pointed, inside, begins_inner, in_parentheses, name_or_none, first, suffixed, direct, declarator_at, declarators}
@@ -83,12 +83,15 @@ module _ (texts : List (List ℕ)) (types : List Name) (functions may_lack : Boo
   abbrev inner_begins : Token → Bool
   inner_begins = begins_inner w functions may_lack below part room rest
 
-  -- what begins a declarator without a name is no type and no annotation
-  inner_free : (t : Token) → inner_begins t ≡ true → (is_type_name w t ≡ false) × (begins_note w t ≡ false)
+  no_note_no_annotation : (t : Token) → begins_note w t ≡ false → is_listed w t ≡ false
+  no_note_no_annotation t h = ap (λ b. is_some (if b then arguments_in (word_of w.texts t) else None)) h
+
+  -- what begins a declarator without a name is no type and no listed annotation
+  inner_free : (t : Token) → inner_begins t ≡ true → (is_type_name w t ≡ false) × (is_listed w t ≡ false)
   inner_free t h = by_star (is_star w t) refl h
     where
-      marked : (m : Mark) → is_mark w m t ≡ true → (is_type_name w t ≡ false) × (begins_note w t ≡ false)
-      marked m k = (mark_no_type_name w m t k, mark_no_note w m t k)
+      marked : (m : Mark) → is_mark w m t ≡ true → (is_type_name w t ≡ false) × (is_listed w t ≡ false)
+      marked m k = (mark_no_type_name w m t k, no_note_no_annotation t (mark_no_note w m t k))
 
       by_name : (b c d : Bool) → (b && not (c || d)) ≡ true → (c ≡ false) × (d ≡ false)
       by_name true true d e = absurd (cc e)
@@ -96,21 +99,21 @@ module _ (texts : List (List ℕ)) (types : List Name) (functions may_lack : Boo
       by_name true false false e = (refl, refl)
       by_name false c d e = absurd (cc e)
 
-      by_bracket : (b : Bool) → is_open_bracket w t ≡ b → (b || (reader.is_name w t && not (is_type_name w t || begins_note w t))) ≡ true → (is_type_name w t ≡ false) × (begins_note w t ≡ false)
+      by_bracket : (b : Bool) → is_open_bracket w t ≡ b → (b || (reader.is_name w t && not (is_type_name w t || is_listed w t))) ≡ true → (is_type_name w t ≡ false) × (is_listed w t ≡ false)
       by_bracket true k e = marked mark.OpenBracket k
-      by_bracket false k e = by_name (reader.is_name w t) (is_type_name w t) (begins_note w t) e
+      by_bracket false k e = by_name (reader.is_name w t) (is_type_name w t) (is_listed w t) e
 
-      by_open : (b : Bool) → is_open w t ≡ b → ((b || is_open_bracket w t) || (reader.is_name w t && not (is_type_name w t || begins_note w t))) ≡ true → (is_type_name w t ≡ false) × (begins_note w t ≡ false)
+      by_open : (b : Bool) → is_open w t ≡ b → ((b || is_open_bracket w t) || (reader.is_name w t && not (is_type_name w t || is_listed w t))) ≡ true → (is_type_name w t ≡ false) × (is_listed w t ≡ false)
       by_open true k e = marked mark.OpenParenthesis k
       by_open false k e = by_bracket (is_open_bracket w t) refl e
 
-      by_star : (b : Bool) → is_star w t ≡ b → ((b || (is_open w t || is_open_bracket w t)) || (reader.is_name w t && not (is_type_name w t || begins_note w t))) ≡ true
-          → (is_type_name w t ≡ false) × (begins_note w t ≡ false)
+      by_star : (b : Bool) → is_star w t ≡ b → ((b || (is_open w t || is_open_bracket w t)) || (reader.is_name w t && not (is_type_name w t || is_listed w t))) ≡ true
+          → (is_type_name w t ≡ false) × (is_listed w t ≡ false)
       by_star true k e = marked mark.Star k
       by_star false k e = by_open (is_open w t) refl e
 
-  free_inner : (t : Token) → begins_any w t ≡ true → is_type_name w t ≡ false → begins_note w t ≡ false → inner_begins t ≡ true
-  free_inner t h free plain = by_test (begins_abstract w t) (reader.is_name w t) (is_type_name w t) (begins_note w t) h free plain
+  free_inner : (t : Token) → begins_any w t ≡ true → is_type_name w t ≡ false → is_listed w t ≡ false → inner_begins t ≡ true
+  free_inner t h free plain = by_test (begins_abstract w t) (reader.is_name w t) (is_type_name w t) (is_listed w t) h free plain
     where
       by_test : (a b c d : Bool) → (a || b) ≡ true → c ≡ false → d ≡ false → (a || (b && not (c || d))) ≡ true
       by_test true b c d e f g = refl
@@ -126,9 +129,9 @@ module _ (texts : List (List ℕ)) (types : List Name) (functions may_lack : Boo
   close_not_inner : (t : Token) → is_close w t ≡ true → inner_begins t ≡ false
   close_not_inner t h =
       let off : (n : Mark) → sign.is_same_mark n mark.CloseParenthesis ≡ false → is_mark w n t ≡ false = λ n apart. mark_alone w mark.CloseParenthesis n t (mark_is w mark.CloseParenthesis t h) apart in
-      ap (λ b. (b || (is_open w t || is_open_bracket w t)) || (reader.is_name w t && not (is_type_name w t || begins_note w t))) (off mark.Star refl)
-      ∙ ap (λ b. (b || is_open_bracket w t) || (reader.is_name w t && not (is_type_name w t || begins_note w t))) (off mark.OpenParenthesis refl)
-      ∙ ap (λ b. b || (reader.is_name w t && not (is_type_name w t || begins_note w t))) (off mark.OpenBracket refl) ∙ ap (λ b. b && not (is_type_name w t || begins_note w t)) (mark_is_no_name w mark.CloseParenthesis t h)
+      ap (λ b. (b || (is_open w t || is_open_bracket w t)) || (reader.is_name w t && not (is_type_name w t || is_listed w t))) (off mark.Star refl)
+      ∙ ap (λ b. (b || is_open_bracket w t) || (reader.is_name w t && not (is_type_name w t || is_listed w t))) (off mark.OpenParenthesis refl)
+      ∙ ap (λ b. b || (reader.is_name w t && not (is_type_name w t || is_listed w t))) (off mark.OpenBracket refl) ∙ ap (λ b. b && not (is_type_name w t || is_listed w t)) (mark_is_no_name w mark.CloseParenthesis t h)
 
   inside_head : is_zero room ≡ false → (o : Token) → OnHead inner_begins (InsideText true o) (λ _. never) (inside w functions may_lack below part room rest o)
   inside_head some o = where_begun (any_inside some o) inner_begins (InsideText true o) to from own heads
@@ -175,7 +178,7 @@ module _ (texts : List (List ℕ)) (types : List Name) (functions may_lack : Boo
           split = refl;
           is = (
             record { is = is_direct types functions may_lack (free_name ∷ []) so_named (is_name types functions may_lack free_name free_name.text (fresh_is_name w types)); count = none; sizes = tt },
-            may_have_none free_name [] (fresh_is_free w) (fresh_no_note w),
+            may_have_none free_name [] (fresh_is_free w) (no_note_no_annotation free_name (fresh_no_note w)),
           );
           passes = close_token_is w;
         };
@@ -448,10 +451,9 @@ module _ (texts : List (List ℕ)) (types : List Name) (functions may_lack : Boo
   bare_no_function (Called params place ∷ ps) h = absurd (cc h)
 
   no_words_free : (ts : List Token) (fixed : Bool) → AreSizeWords w ts fixed → ts ≡ [] → fixed ≡ false
-  no_words_free _ _ no_size_words e = refl
-  no_words_free _ _ (a_qualifier t ts b are k) e = absurd (not_none ts t (sym e))
-  no_words_free _ _ (a_restrict t ts b are k) e = absurd (not_none ts t (sym e))
-  no_words_free _ _ (a_static t ts are k) e = absurd (not_none ts t (sym e))
+  no_words_free _ _ (no_static ts c are) e = refl
+  no_words_free _ _ (static_first t ts c is are) e = absurd (cc e)
+  no_words_free _ _ (static_last t ts c are is) e = absurd (not_none ts t (sym e))
 
   free_size : (fixed : Bool) (ts : List Token) (size : OptionalExpr) → IsSizeOf w fixed ts size → fixed ≡ false → IsSize w ts size
   free_size _ _ _ (a_free ts size is) h = is
@@ -473,7 +475,7 @@ module _ (texts : List (List ℕ)) (types : List Name) (functions may_lack : Boo
       })
   array_fits xs d o ts e f opens no_function few true h j = by_words j.before refl
     where
-      are : AreSizeWords w j.before j.value
+      are : AreSizeWords w j.before j.value.1
       are = are_words w functions may_lack below part room rest j.value j.before j.first
 
       sizes : InnerFits (below - 1) (Arrayed j.second.value o.place ∷ d.pieces)
@@ -481,7 +483,7 @@ module _ (texts : List (List ℕ)) (types : List Name) (functions may_lack : Boo
 
       by_words : (before : List Token) → j.before ≡ before → FitsDirect (xs ++ (o ∷ ts)) e
       by_words [] none =
-          let free : IsSize w j.second.is.front j.second.value = free_size j.value j.second.is.front j.second.value j.second.is.is.0 (no_words_free j.before j.value are none) in
+          let free : IsSize w j.second.is.front j.second.value = free_size j.value.1 j.second.is.front j.second.value j.second.is.is.0 (no_words_free j.before j.value.1 are none) in
           subst₂ FitsDirect (sym (ap (λ l. xs ++ (o ∷ l)) (j.split ∙ ap (λ l. l ++ j.after) none ∙ j.second.is.split))) (sym j.second.same) (record {
             is = is_array types functions may_lack o j.second.is.closing xs j.second.is.front j.second.value d opens j.second.is.passes no_function f.is free;
             count = few;
@@ -490,7 +492,7 @@ module _ (texts : List (List ℕ)) (types : List Name) (functions may_lack : Boo
       by_words (t ∷ before) some =
           let tokens : ts ≡ (j.before ++ j.second.is.front) ++ (j.second.is.closing ∷ []) = j.split ∙ ap (λ l. j.before ++ l) j.second.is.split ∙ sym (append_assoc j.before j.second.is.front (j.second.is.closing ∷ [])) in
           subst₂ FitsDirect (sym (ap (λ l. xs ++ (o ∷ l)) tokens)) (sym j.second.same) (record {
-            is = is_outermost types functions may_lack o j.second.is.closing xs j.before j.second.is.front j.second.value d j.value opens j.second.is.passes (and_first may_lack (is_bare d.pieces) h)
+            is = is_outermost types functions may_lack o j.second.is.closing xs j.before j.second.is.front j.second.value d j.value.1 opens j.second.is.passes (and_first may_lack (is_bare d.pieces) h)
                 (and_second may_lack (is_bare d.pieces) h) f.is are j.second.is.is.0 (λ none. let no : t ∷ before ≡ [] = sym some ∙ none in cc no);
             count = few;
             sizes = sizes;
@@ -535,9 +537,9 @@ module _ (texts : List (List ℕ)) (types : List Name) (functions may_lack : Boo
   array_text true n f c ys size closes is deep = record {
     before = [];
     after = ys ++ (c ∷ []);
-    value = false;
+    value = (false, false);
     split = refl;
-    first = over false;
+    first = over (false, false);
     second = record { value = size; is = record { front = ys; closing = c; split = refl; is = (a_free ys size is, deep); passes = closes }; same = refl };
   }
   array_text false n f c ys size closes is deep = record { value = size; is = record { front = ys; closing = c; split = refl; is = (is, deep); passes = closes }; same = refl }
@@ -545,12 +547,12 @@ module _ (texts : List (List ℕ)) (types : List Name) (functions may_lack : Boo
   outermost_text : (outermost : Bool) → outermost ≡ true → (n : ℕ) (f : OptionalExpr → Declarator) (c : Token) (ys zs : List Token) (fixed : Bool) (size : OptionalExpr) → is_close_bracket w c ≡ true → AreSizeWords w ys fixed
       → IsSizeOf w fixed zs size → depth_of_optional_expr size ≤ below - suc n → Arrayed_as outermost n f ((ys ++ zs) ++ (c ∷ [])) (f size)
   outermost_text false h n f c ys zs fixed size closes are is deep = absurd (cc h)
-  outermost_text true h n f c ys zs fixed size closes are is deep = record {
+  outermost_text true h n f c ys zs fixed size closes are is deep = let words = from_words w functions may_lack below part room rest fixed ys are in record {
     before = ys;
     after = zs ++ (c ∷ []);
-    value = fixed;
+    value = (words.0, fixed);
     split = append_assoc ys zs (c ∷ []);
-    first = from_words w functions may_lack below part room rest fixed ys are;
+    first = words.1;
     second = record { value = size; is = record { front = zs; closing = c; split = refl; is = (is, deep); passes = closes }; same = refl };
   }
 

@@ -172,14 +172,14 @@ module _ (texts : List (List ℕ)) (types : List Name) (functions may_lack : Boo
       by_size _ _ _ (a_free _ _ (a_size xs e is)) = by_begin xs (expr_begins w Assignment xs e is)
 
   abbrev pub OutermostText : ℕ → (OptionalExpr → Declarator) → List Token → Declarator → Type 0
-  OutermostText n f = Joined (WordTexts w functions may_lack below part room rest) (λ fixed. SizeText fixed n f)
+  OutermostText n f = Joined (WordTexts w functions may_lack below part room rest) (λ found. SizeText found.1 n f)
 
   outermost_law : (n : ℕ) → suc (suc n) ≤ below → (f : OptionalExpr → Declarator) → Lawful (OutermostText n f) (λ _. never) (outermost_size w functions may_lack below part room rest n >>= closed_as f)
   unfolding outermost_size
   outermost_law n le f =
-      via (in_order {Second = λ fixed. SizeText fixed n f} {q = λ fixed. (if fixed then size w functions may_lack below part room rest n else sized w functions may_lack below part room rest n) >>= closed_as f}
-      (words_law w functions may_lack below part room rest) (λ xs fixed is. size_of_law fixed n le f) (λ xs fixed ys d later first second e. size_unworded fixed n f ys d later second)) (λ ts d j. j) (λ ts d j. j)
-      (outermost_size w functions may_lack below part room rest n >>= closed_as f) (λ ts. and_then_assoc _ (λ fixed. if fixed then size w functions may_lack below part room rest n else sized w functions may_lack below part room rest n) (closed_as f))
+      via (in_order {Second = λ found. SizeText found.1 n f} {q = λ found. (if found.1 then size w functions may_lack below part room rest n else sized w functions may_lack below part room rest n) >>= closed_as f}
+      (words_law w functions may_lack below part room rest) (λ xs found is. size_of_law found.1 n le f) (λ xs found ys d later first second e. size_unworded found.1 n f ys d later second)) (λ ts d j. j) (λ ts d j. j)
+      (outermost_size w functions may_lack below part room rest n >>= closed_as f) (λ ts. and_then_assoc {A = Bool × Bool} _ (λ found. if found.1 then size w functions may_lack below part room rest n else sized w functions may_lack below part room rest n) (closed_as f))
 
   -- ---- an array
 

@@ -93,17 +93,19 @@ module _ (texts : List (List ℕ)) (types : List Name) (functions may_lack : Boo
   unfolding sized
   sized_telling n = choosing_any (reasons texts) (is_close_bracket w) _ _ (giving (reasons texts) tree.NoExpr) (size_telling n)
 
-  size_word_telling : (fixed : Bool) → Telling (reasons texts) (size_word w functions may_lack below part room rest fixed)
+  size_word_telling : (found : Bool × Bool) → Telling (reasons texts) (size_word w functions may_lack below part room rest found)
   unfolding size_word
-  size_word_telling fixed =
-      choosing_any (reasons texts) (λ t. is_keyword w keyword.Static t && not fixed) _ _ (one_by_one (reasons texts) (token unexpected (is_keyword w keyword.Static)) (λ t. pure true) (a_token (reasons texts) (is_keyword w keyword.Static)) (λ t. giving (reasons texts) true))
-      (choosing (reasons texts) (is_keyword w keyword.Volatile) _ _ (volatile_telling texts types Bool) (one_by_one (reasons texts) (token unexpected (is_qualifier w)) (λ t. pure fixed) (a_token (reasons texts) (is_qualifier w)) (λ t. giving (reasons texts) fixed)))
+  size_word_telling found ts =
+      by_choice (reasons texts) (at_next (λ t. is_keyword w keyword.Static t && not found.1) ts) _ _ ts
+      (λ h. one_by_one (reasons texts) (token unexpected (is_keyword w keyword.Static)) (λ t. pure (found.0, true)) (a_token (reasons texts) (is_keyword w keyword.Static)) (λ t. giving (reasons texts) {A = Bool × Bool} (found.0, true)) ts)
+      (λ h. by_choice (reasons texts) (found.0 && found.1) _ _ ts (λ k. refusing (reasons texts) (Bool × Bool) ts) (λ k. choosing (reasons texts) (is_keyword w keyword.Volatile) (refuse {T = Token} {A = Bool × Bool} expr.volatile) _ (volatile_telling texts types (Bool × Bool))
+      (one_by_one (reasons texts) (token unexpected (is_qualifier w)) (λ t. pure (not found.1, found.1)) (a_token (reasons texts) (is_qualifier w)) (λ t. giving (reasons texts) {A = Bool × Bool} (not found.1, found.1))) ts))
 
   outermost_telling : (n : ℕ) → Telling (reasons texts) (outermost_size w functions may_lack below part room rest n)
   unfolding outermost_size
   outermost_telling n =
-      one_by_one (reasons texts) (looped (is_size_word w functions may_lack below part room rest) (size_word w functions may_lack below part room rest) false) _
-      (turning (reasons texts) (is_size_word w functions may_lack below part room rest) (size_word w functions may_lack below part room rest) (λ b ts h. size_word_telling b ts) false) (λ fixed. by_test (reasons texts) fixed _ _ (size_telling n) (sized_telling n))
+      one_by_one (reasons texts) (looped (is_size_word w functions may_lack below part room rest) (size_word w functions may_lack below part room rest) (false, false)) _
+      (turning (reasons texts) (is_size_word w functions may_lack below part room rest) (size_word w functions may_lack below part room rest) (λ b ts h. size_word_telling b ts) (false, false)) (λ found. by_test (reasons texts) found.1 _ _ (size_telling n) (sized_telling n))
 
   arrayed_at : (d : Declarator) → TellingAt (reasons texts) (is_open_bracket w) (arrayed w functions may_lack below part room rest d)
   unfolding arrayed

@@ -1,33 +1,35 @@
 -- Why the readers of members and parameters stop.
-use Rattle.std.proofs.Common.{◌≡◌, ◌≤◌, ◌+◌, ◌-◌, ℕ, zero, suc, Bool, true, false, not, List, [], ◌∷◌, ◌++◌, length, nat_lt, refl, sym, ap, ◌∙◌, subst, append_assoc, length-append, arith}
+use Rattle.std.proofs.Common.{◌≡◌, ◌≤◌, ◌+◌, ◌-◌, ℕ, zero, suc, Bool, true, false, not, List, [], ◌∷◌, ◌++◌, length, nat_lt, refl, sym, ap, ◌∙◌, subst, append_assoc, length-append, arith, ◌||◌, ◌⊎◌, inl, inr, if◌then◌else◌}
 use Rattle.std.proofs.lemmas.Bool.{ltb-false}
 use Rattle.sb_base.specs.declared.interning.Name.{Name}
 use Rattle.sb_base.specs.declared.tokens.Token.{Token}
-use Rattle.sb_parse.specs.Parser.{Outcome, done, stop, at_next, and_then, pure, refuse, token, loop, looped}
+use Rattle.sb_parse.specs.Parser.{Outcome, done, stop, at_next, and_then, pure, refuse, token, loop, looped, ◌>>=◌, choose}
 use Rattle.sb_parse.specs.Lawful.{Part}
 use Rattle.sb_sign.specs.declared.sign.Mark.TheVariants as mark
 use Rattle.sb_tree.specs.Trees.{NoteTree, TypeTree, DeclTree, depth_of_type}
 use Rattle.sb_parse.specs.Descent.{descent}
 use Rattle.sb_lexicon.specs.Lexicon.{is_mark}
-use Rattle.sb_lexicon.specs.Tokens.{unexpected, is_comma, is_colon}
+use Rattle.sb_lexicon.specs.Tokens.{unexpected, is_comma, is_colon, too_deep, too_many_parameters}
 use Rattle.sb_lexicon.specs.Outcomes.{nowhere}
 use Rattle.sb_sal.specs.declared.bearer.Bearer.TheVariants as bearer
 use Rattle.sb_sal.specs.Readers.{notes_reader}
 use Rattle.sb_sal.specs.Spellings.{may_stand}
-use Rattle.sb_parse.proofs.Explaining.{next_is}
+use Rattle.sb_parse.proofs.Explaining.{next_is, Stops}
 use Rattle.sb_specifier.specs.declared.seat.Seat.TheVariants as seat
 use Rattle.sb_specifier.specs.Specified.{reading, again}
-use Rattle.sb_specifier.specs.Declaration.{AreSome, first_parameter, parameter_behind}
+use Rattle.sb_specifier.specs.Declaration.{AreSome, first_parameter, parameter_behind, parameter_beyond}
 use Rattle.sb_declarator.specs.Readers as reader
-use Rattle.sb_specifier.specs.Readers.{Declarations, Parts, bit_field, variable_arguments, is_close_brace, is_semicolon, specifiers}
+use Rattle.sb_specifier.specs.Readers.{Declarations, Parts, bit_field, variable_arguments, is_close_brace, is_semicolon, specifiers, barred, barred_by, begins_at, begins_parameter, makes_room}
 use Rattle.sb_parse.specs.Texts.{with_text}
-use Rattle.sb_declarator.specs.Readers.{on, member_declarator, next_member, member, members, parameter, is_full, another_parameter, next_parameter, parameters_at, parts}
-use Rattle.sb_specifier.specs.Reasons.{too_many}
+use Rattle.sb_declarator.specs.Readers.{on, member_declarator, next_member, member, members, parameter, is_full, another_parameter, next_parameter, parameters_at, parts, beyond_limit}
+use Rattle.sb_specifier.specs.Reasons.{too_many, IsDeclarationReason, has_room}
 use Rattle.sb_specifier.proofs.laws.More.{more_last, FitsParameters, MembersLaws}
 use Rattle.sb_declarator.proofs.laws.Parameters.{Behind, behind_head, first_fits, add_one}
 use Rattle.sb_declarator.proofs.telling.Declarators.{declarators_telling}
 use Rattle.sb_declarator.proofs.laws.Parameter.{parameter_law}
+use Rattle.sb_specifier.proofs.laws.Barring.{at_number}
 use Rattle.sb_specifier.proofs.telling.Shown.{barred_telling}
+use Rattle.sb_parse.proofs.Ways.{first_fails, second_fails}
 use Rattle.sb_specifier.proofs.telling.Specifiers.{specifiers_telling}
 use Rattle.sb_specifier.proofs.telling.Reasons.{reasons, refusing_feature, notes_telling}
 use Rattle.sb_parse.proofs.Telling.{still, Tells, Telling, TellingAt, tells_behind, one_by_one, a_token, by_choice, choosing, turning, text_telling}
@@ -37,10 +39,19 @@ use Rattle.sb_declarator.proofs.laws.Parts.{members_below}
 abbrev pub TellingParts : List (List ℕ) → Parts → Type 0
 TellingParts texts p = (types : List Name) → Telling (reasons texts) (p.members types) × Telling (reasons texts) (p.parameters types)
 
--- there are no more than 32 parameters
-some_count : (texts : List (List ℕ)) (types : List Name) (ts : List Token) (ds : Declarations) → AreSome texts types ts ds → length ds.list ≤ 32
-some_count texts _ _ _ (first_parameter types now ts d is) = omega arith
-some_count texts _ _ _ (parameter_behind types now xs ys c ds d comma are few is) = let sizes : length (ds.list ++ (d ∷ [])) ≡ length ds.list + 1 = length-append ds.list (d ∷ []) in omega arith
+-- there are no more than 32 parameters where no token makes room for one more
+room_behind : (xs ys : List Token) → has_room (xs ++ ys) ≡ false → (has_room xs ≡ false) × (has_room ys ≡ false)
+room_behind [] ys h = (refl, h)
+room_behind (x ∷ xs) ys h =
+    let rest = room_behind xs ys (second_fails (makes_room x) (has_room (xs ++ ys)) h) in
+    (ap (λ b. b || has_room xs) (first_fails (makes_room x) (has_room (xs ++ ys)) h) ∙ rest.0, rest.1)
+
+some_count : (texts : List (List ℕ)) (types : List Name) (ts : List Token) (ds : Declarations) → AreSome texts types ts ds → has_room ts ≡ false → length ds.list ≤ 32
+some_count texts _ _ _ (first_parameter types now ts d is) h = omega arith
+some_count texts _ _ _ (parameter_behind types now xs ys c ds d comma are few is) h = let sizes : length (ds.list ++ (d ∷ [])) ≡ length ds.list + 1 = length-append ds.list (d ∷ []) in omega arith
+some_count texts _ _ _ (parameter_beyond types now xs ys c m ds d comma are full room is) h =
+    let none : makes_room m ≡ false = first_fails (makes_room m) (has_room ys) (second_fails (makes_room c) (has_room (m ∷ ys)) (room_behind xs (c ∷ (m ∷ ys)) h).1) in
+    absurd (let both : true ≡ false = sym room ∙ none in cc both)
 
 module _ (texts : List (List ℕ)) (below : ℕ) (part : ℕ → Parts) (T : (k : ℕ) → TellingParts texts (part k)) where
   pub on_telling : (types : List Name) (functions may_lack : Bool) (base : TypeTree) → Telling (reasons texts) (on texts below part types functions may_lack base)
@@ -90,11 +101,8 @@ module _ (texts : List (List ℕ)) (below : ℕ) (part : ℕ → Parts) (T : (k 
       (text_telling (reasons texts) (specifiers texts seat.Prototype below part ds.types) (specifiers_telling texts seat.Prototype below part (λ k types. (T k types).0) ds.types)) (λ s.
       one_by_one (reasons texts) (on texts below part s.0.0.types false true s.0.1) _ (on_telling s.0.0.types false true s.0.1) (λ d. still)))
 
-  another_telling : (ds : Declarations) → Telling (reasons texts) (another_parameter texts below part ds)
-  unfolding another_parameter
-  another_telling ds =
-      one_by_one (reasons texts) (token unexpected (is_comma (reading texts ds.types))) _ (a_token (reasons texts) (is_comma (reading texts ds.types))) (λ t.
-      choosing (reasons texts) (is_mark (reading texts ds.types) mark.Ellipsis) (refuse variable_arguments) (parameter texts below part ds) (refusing_feature texts Declarations ds.types (is_mark (reading texts ds.types) mark.Ellipsis) 6 (λ t h. h)) (parameter_telling ds))
+  room_telling : (ds : Declarations) → Telling (reasons texts) (token unexpected makes_room >>= (λ t. parameter texts below part ds))
+  room_telling ds = one_by_one (reasons texts) (token unexpected makes_room) _ (a_token (reasons texts) makes_room) (λ t. parameter_telling ds)
 
   module _ (M : MembersLaws texts below part) (some : 1 ≤ below) (types : List Name) where
     abbrev Fits : List Token → Declarations → Type 0
@@ -103,27 +111,78 @@ module _ (texts : List (List ℕ)) (below : ℕ) (part : ℕ → Parts) (T : (k 
     abbrev commas : Token → Bool
     commas = is_comma (reading texts types)
 
-    full_is : (ds : Declarations) (xs : List Token) → Fits xs ds → is_full texts below part ds ≡ true → length ds.list ≡ 32
-    full_is ds xs f h =
-        let most : length ds.list ≤ 32 = some_count texts types xs ds f.0 in
-        let least : 32 ≤ length ds.list = ltb-false (length ds.list) 32 (not_true (nat_lt (length ds.list) 32) h) in
-        omega arith
+    is_full_of : (ds : Declarations) → is_full texts below part ds ≡ true → 32 ≤ length ds.list
+    is_full_of ds h = ltb-false (length ds.list) 32 (not_true (nat_lt (length ds.list) 32) h)
       where
         not_true : (b : Bool) → not b ≡ true → b ≡ false
         not_true true e = absurd (cc e)
         not_true false e = refl
 
+    full_is : (ds : Declarations) (xs : List Token) → Fits xs ds → is_full texts below part ds ≡ true → has_room xs ≡ false → length ds.list ≡ 32
+    full_is ds xs f h none =
+        let most : length ds.list ≤ 32 = some_count texts types xs ds f.0 none in
+        let least : 32 ≤ length ds.list = is_full_of ds h in
+        omega arith
+
+    module _ (xs : List Token) (ds : Declarations) (f : Fits xs ds) (c : Token) (comma : commas c ≡ true) where
+      abbrev ahead : List Token
+      ahead = xs ++ (c ∷ [])
+
+      -- what is refused behind the comma
+      barred_tells : is_full texts below part ds ≡ true → (ts : List Token) → Tells (reasons texts) {A = Declarations} (ahead ++ ts) (barred_by too_many_parameters (reading texts ds.types) seat.Prototype ts)
+      barred_tells full ts = by_case (at_number too_many_parameters (reading texts ds.types) seat.Prototype too_deep {A = Declarations} ts)
+        where
+          surplus : (t : Token) × (us : List Token) × (ts ≡ t ∷ us) × (begins_parameter (reading texts ds.types) t ≡ true) → Stops (IsDeclarationReason texts) (ahead ++ ts) too_many_parameters (length ts)
+          surplus b = record {
+            front = ahead;
+            bad = ts;
+            split = refl;
+            left_is = refl;
+            why = too_many (record {
+              before = [];
+              parameters = xs;
+              comma = c;
+              first = b.0;
+              rest = b.1;
+              types = types;
+              trees = ds;
+              split = refl;
+              are = f.0;
+              full = is_full_of ds full;
+              just = full_is ds xs f full;
+              is_one = comma;
+              goes_on = b.2;
+              begins = b.3;
+            });
+          }
+
+          by_case : {o : Outcome Token Declarations} → (o ≡ barred (reading texts ds.types) seat.Prototype ts) ⊎ ((at_next (begins_at (reading texts ds.types) seat.Prototype) ts ≡ true) × (o ≡ stop too_many_parameters (length ts)))
+              → Tells (reasons texts) (ahead ++ ts) o
+          by_case (inl e) = subst (λ o. Tells (reasons texts) {A = Declarations} (ahead ++ ts) o) (sym e) (tells_behind (reasons texts) ahead ts (barred (reading texts ds.types) seat.Prototype ts) (barred_telling texts ds.types Declarations seat.Prototype ts))
+          by_case (inr b) = subst (λ o. Tells (reasons texts) {A = Declarations} (ahead ++ ts) o) (sym b.1) (surplus (next_is (begins_at (reading texts ds.types) seat.Prototype) ts b.0))
+
+      another_tells : (ts : List Token) → Tells (reasons texts) (ahead ++ ts) (another_parameter texts below part ds ts)
+      unfolding another_parameter beyond_limit
+      another_tells ts = by_count (is_full texts below part ds) refl
+        where
+          by_count : (b : Bool) → is_full texts below part ds ≡ b → Tells (reasons texts) (ahead ++ ts) ((if b then beyond_limit texts below part ds else parameter texts below part ds) ts)
+          by_count false k = tells_behind (reasons texts) ahead ts (parameter texts below part ds ts) (parameter_telling ds ts)
+          by_count true k =
+              by_choice (reasons texts) (at_next makes_room ts) ((token unexpected makes_room >>= (λ t. parameter texts below part ds)) ts) (barred_by too_many_parameters (reading texts ds.types) seat.Prototype ts) (ahead ++ ts)
+              (λ h. tells_behind (reasons texts) ahead ts _ (room_telling ds ts)) (λ h. barred_tells k ts)
+
+      behind_comma : (ts : List Token) → Tells (reasons texts) (ahead ++ ts) (choose (is_mark (reading texts ds.types) mark.Ellipsis) (refuse variable_arguments) (another_parameter texts below part ds) ts)
+      behind_comma ts =
+          by_choice (reasons texts) (at_next (is_mark (reading texts ds.types) mark.Ellipsis) ts) (refuse variable_arguments ts) (another_parameter texts below part ds ts) (ahead ++ ts)
+          (λ h. tells_behind (reasons texts) {A = Declarations} ahead ts (refuse variable_arguments ts) (refusing_feature texts Declarations ds.types (is_mark (reading texts ds.types) mark.Ellipsis) 6 (λ t h. h) ts h)) (λ h. another_tells ts)
+
     next_tells : (xs : List Token) (ds : Declarations) → Fits xs ds → (ts : List Token) → at_next commas ts ≡ true → Tells (reasons texts) (xs ++ ts) (next_parameter texts below part ds ts)
     unfolding next_parameter
-    next_tells xs ds f ts h =
-        by_choice (reasons texts) (is_full texts below part ds) _ _ (xs ++ ts) (λ k. let c = next_is commas ts h in record {
-          front = xs;
-          bad = ts;
-          split = refl;
-          left_is = refl;
-          why = too_many (record { before = []; parameters = xs; rest = c.1; comma = c.0; types = types; trees = ds; split = refl; are = f.0; full = full_is ds xs f k; goes_on = c.2; is_one = c.3 });
-        })
-        (λ k. tells_behind (reasons texts) xs ts (another_parameter texts below part ds ts) (another_telling ds ts))
+    next_tells xs ds f [] h = absurd (cc h)
+    next_tells xs ds f (c ∷ ts) h =
+        subst (λ b. Tells (reasons texts) {A = Declarations} (xs ++ (c ∷ ts)) (and_then (if b then done c ts else stop unexpected (suc (length ts))) (λ t. choose (is_mark (reading texts ds.types) mark.Ellipsis) (refuse variable_arguments)
+        (another_parameter texts below part ds)))) (sym h) (subst (λ l. Tells (reasons texts) {A = Declarations} l (choose (is_mark (reading texts ds.types) mark.Ellipsis) (refuse variable_arguments) (another_parameter texts below part ds) ts))
+        (append_assoc xs (c ∷ []) ts) (behind_comma xs ds f c h ts))
 
     turns_tell : (n : ℕ) (xs : List Token) (ds : Declarations) → Fits xs ds → (ts : List Token) → Tells (reasons texts) (xs ++ ts) (loop commas (next_parameter texts below part) n ds ts)
     unfolding loop

@@ -81,15 +81,15 @@ module _ (w : Lexicon) (functions may_lack : Bool) (n m : ℕ) (le : n ≤ m) (p
     unfolding sized
     sized_wider k = choosing (is_close_bracket w) _ _ _ _ (alike _) (size_wider k)
 
-    word_wider : (fixed : Bool) → Wider (size_word w functions may_lack n part room rest fixed) (size_word w functions may_lack m more other far fixed)
+    word_wider : (found : Bool × Bool) → Wider (size_word w functions may_lack n part room rest found) (size_word w functions may_lack m more other far found)
     unfolding size_word
-    word_wider fixed = alike _
+    word_wider found = alike _
 
     outermost_wider : (k : ℕ) → Wider (outermost_size w functions may_lack n part room rest k) (outermost_size w functions may_lack m more other far k)
     unfolding outermost_size
     outermost_wider k =
-        one_by_one _ _ _ _ (turning (is_size_word w functions may_lack n part room rest) (size_word w functions may_lack n part room rest) (size_word w functions may_lack m more other far) word_wider false)
-        (λ fixed. either_way fixed _ _ _ _ (size_wider k) (sized_wider k))
+        one_by_one _ _ _ _ (turning (is_size_word w functions may_lack n part room rest) (size_word w functions may_lack n part room rest) (size_word w functions may_lack m more other far) word_wider (false, false))
+        (λ found. either_way found.1 _ _ _ _ (size_wider k) (sized_wider k))
 
     arrayed_wider : (d : Declarator) → Wider (arrayed w functions may_lack n part room rest d) (arrayed w functions may_lack m more other far d)
     unfolding arrayed

@@ -1,13 +1,13 @@
 -- Readers of members and parameters with more room, by what is known of annotations, specifiers and declarators.
-use Rattle.std.proofs.Common.{◌≤◌, ◌∷◌, ℕ, Bool, true, false, not, List, [], length, refl, ap}
+use Rattle.std.proofs.Common.{◌≤◌, ◌∷◌, ℕ, Bool, true, false, not, List, [], if◌then◌else◌, ap}
 use Rattle.sb_base.specs.declared.interning.Name.{Name}
 use Rattle.sb_base.specs.declared.tokens.Token.{Token}
-use Rattle.sb_parse.specs.Parser.{Outcome, Parser, stop, refuse, token, looped}
+use Rattle.sb_parse.specs.Parser.{Outcome, Parser, ◌>>=◌, refuse, token, looped}
 use Rattle.sb_sign.specs.declared.sign.Mark.TheVariants as mark
 use Rattle.sb_tree.specs.Trees.{TypeTree, DeclTree, NoteTree}
 use Rattle.sb_lexicon.specs.Lexicon.{is_mark}
 use Rattle.sb_lexicon.specs.Tokens.{unexpected, too_many_parameters, is_comma, is_colon}
-use Rattle.sb_lexicon.proofs.Wider.{Held, short, same, Wider, alike, one_by_one, behind, before, by_choice, choosing, turning}
+use Rattle.sb_lexicon.proofs.Wider.{Held, short, same, Wider, alike, one_by_one, behind, before, choosing, turning}
 use Rattle.sb_sal.specs.declared.bearer.Bearer.TheVariants as bearer
 use Rattle.sb_sal.specs.Readers.{notes_reader}
 use Rattle.sb_sal.specs.Spellings.{may_stand}
@@ -15,8 +15,8 @@ use Rattle.sb_specifier.specs.declared.seat.Seat.{Seat}
 use Rattle.sb_specifier.specs.declared.seat.Seat.TheVariants as seat
 use Rattle.sb_specifier.specs.Specified.{reading, again}
 use Rattle.sb_parse.specs.Texts.{with_front, with_text}
-use Rattle.sb_specifier.specs.Readers.{is_close_brace, bit_field, variable_arguments, Declarations, Parts, specifiers}
-use Rattle.sb_declarator.specs.Readers.{on, member_declarator, next_member, member, members, parameter, is_full, another_parameter, next_parameter, parameters_at}
+use Rattle.sb_specifier.specs.Readers.{barred_by, is_close_brace, makes_room, bit_field, variable_arguments, Declarations, Parts, specifiers}
+use Rattle.sb_declarator.specs.Readers.{on, member_declarator, next_member, member, members, parameter, is_full, beyond_limit, another_parameter, next_parameter, parameters_at}
 
 -- ---- the tokens that were read stand beside the value
 
@@ -73,17 +73,26 @@ module _ (texts : List (List ℕ)) (n m : ℕ) (le : n ≤ m) (part more : ℕ �
       (text_wider (specifiers texts seat.Prototype n part ds.types) (specifiers texts seat.Prototype m more ds.types) (Specifiers seat.Prototype ds.types)) (λ s.
       before (on texts n part s.0.0.types false true s.0.1) (on texts m more s.0.0.types false true s.0.1) _ (Declarators s.0.0.types false true s.0.1)))
 
+  beyond_wider : (ds : Declarations) → Wider (beyond_limit texts n part ds) (beyond_limit texts m more ds)
+  unfolding beyond_limit
+  beyond_wider ds =
+      choosing makes_room (token unexpected makes_room >>= (λ t. parameter texts n part ds)) (token unexpected makes_room >>= (λ t. parameter texts m more ds)) _ _
+      (behind (token unexpected makes_room) _ _ (λ t. parameter_wider ds)) (alike (barred_by too_many_parameters (reading texts ds.types) seat.Prototype))
+
   another_wider : (ds : Declarations) → Wider (another_parameter texts n part ds) (another_parameter texts m more ds)
   unfolding another_parameter
-  another_wider ds =
-      behind (token unexpected (is_comma (reading texts ds.types))) _ _
-      (λ t. choosing (is_mark (reading texts ds.types) mark.Ellipsis) (refuse variable_arguments) (refuse variable_arguments) (parameter texts n part ds) (parameter texts m more ds) (alike (refuse variable_arguments)) (parameter_wider ds))
+  another_wider ds = by_count (is_full texts n part ds)
+    where
+      by_count : (b : Bool) → Wider (if b then beyond_limit texts n part ds else parameter texts n part ds) (if b then beyond_limit texts m more ds else parameter texts m more ds)
+      by_count true = beyond_wider ds
+      by_count false = parameter_wider ds
 
   next_parameter_wider : (ds : Declarations) → Wider (next_parameter texts n part ds) (next_parameter texts m more ds)
   unfolding next_parameter
-  next_parameter_wider ds ts =
-      by_choice (is_full texts n part ds) (stop too_many_parameters (length ts)) (stop too_many_parameters (length ts)) (another_parameter texts n part ds ts) (another_parameter texts m more ds ts)
-      (λ h. same refl) (λ h. another_wider ds ts)
+  next_parameter_wider ds =
+      behind (token unexpected (is_comma (reading texts ds.types))) _ _
+      (λ t. choosing (is_mark (reading texts ds.types) mark.Ellipsis) (refuse variable_arguments) (refuse variable_arguments) (another_parameter texts n part ds) (another_parameter texts m more ds) (alike (refuse variable_arguments))
+      (another_wider ds))
 
   pub parameters_wider : (types : List Name) → Wider (parameters_at texts n part types) (parameters_at texts m more types)
   unfolding parameters_at

@@ -23,7 +23,7 @@ use Rattle.sb_sal.specs.Spellings.{begins_note, arguments_in, arguments_of, word
 use Rattle.sb_specifier.specs.declared.seat.Seat.{Seat}
 use Rattle.sb_specifier.specs.declared.seat.Seat.TheVariants as seat
 use Rattle.sb_specifier.specs.Specified.{reading, Specified, unspecified, storage_in, storage_by, is_register, base_of}
-use Rattle.sb_specifier.specs.Declaration.{IsTag, is_untagged, is_tagged, IsSpecifier, is_word, is_constant, is_restricted, is_inline, is_stored, is_defined, names_structure, names_enumeration, defines_structure, defines_enumeration, AreSpecifiers, no_specifiers, more_specifiers, IsParameter, is_parameter, AreSome, first_parameter, parameter_behind, IsMember, is_member}
+use Rattle.sb_specifier.specs.Declaration.{IsTag, is_untagged, is_tagged, IsSpecifier, is_word, is_constant, is_restricted, is_inline, is_stored, is_defined, names_structure, names_enumeration, defines_structure, defines_enumeration, AreSpecifiers, no_specifiers, more_specifiers, IsParameter, is_parameter, AreSome, first_parameter, parameter_behind, parameter_beyond, IsMember, is_member}
 use Rattle.sb_specifier.specs.Readers as reader
 use Rattle.sb_specifier.specs.Readers.{Declarations, begins_declaration, is_specifier_word, is_storage_word, is_storage_keyword}
 use Rattle.sb_derivation.proofs.laws.Beginnings.{mark_no_type_name, mark_no_note}
@@ -163,6 +163,7 @@ module _ (texts : List (List ℕ)) where
   pub parameters_begin : (types : List Name) (ts : List Token) (ds : Declarations) → AreSome texts types ts ds → at_next (begins_declaration (reading texts types)) ts ≡ true
   parameters_begin _ _ _ (first_parameter types now ts d is) = parameter_begins types now ts d is
   parameters_begin _ _ _ (parameter_behind types now xs ys c ds d comma are few is) = head_of_append (begins_declaration (reading texts types)) xs (c ∷ ys) (parameters_begin types xs ds are)
+  parameters_begin _ _ _ (parameter_beyond types now xs ys c m ds d comma are full room is) = head_of_append (begins_declaration (reading texts types)) xs (c ∷ (m ∷ ys)) (parameters_begin types xs ds are)
 
   pub member_begins : (types : List Name) (ts : List Token) (ds : Declarations) → IsMember texts types ts ds → at_next (begins_declaration (reading texts types)) ts ≡ true
   member_begins _ _ _ (is_member types xs ys zs c ns s base ds noted are named declared closes) = declaration_begins types _ seat.Structure xs ys (zs ++ (c ∷ [])) ns s base noted are named

@@ -37,15 +37,18 @@ module _ (texts : List (List ℕ)) where
       too_many (record {
         before = xs ++ r.before;
         parameters = r.parameters;
-        rest = r.rest;
         comma = r.comma;
+        first = r.first;
+        rest = r.rest;
         types = r.types;
         trees = r.trees;
-        split = longer xs r.before r.parameters front r.split;
+        split = longer xs r.before (r.parameters ++ (r.comma ∷ [])) front r.split;
         are = r.are;
         full = r.full;
-        goes_on = r.goes_on;
+        just = r.just;
         is_one = r.is_one;
+        goes_on = r.goes_on;
+        begins = r.begins;
       })
   further xs front bad _ (misplaced count r) =
       misplaced count (record {
