@@ -1,2 +1,3 @@
+pub mod Pardons
 pub mod Readers
 pub mod Sharing

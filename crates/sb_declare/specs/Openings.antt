@@ -16,11 +16,8 @@ use Rattle.sb_lexicon.specs.declared.reading.ReadFault.{ReadFault}
 use Rattle.sb_lexicon.specs.Lexicon.{Lexicon, is_mark}
 use Rattle.sb_lexicon.specs.Meaning.{IsFault}
 use Rattle.sb_operand.specs.Pieces.{typed}
-use Rattle.sb_lexicon.specs.Tokens.{unexpected, too_deep, misplaced_before}
-use Rattle.sb_sal.specs.declared.bearer.Bearer.{Bearer}
+use Rattle.sb_lexicon.specs.Tokens.{unexpected, too_deep}
 use Rattle.sb_sal.specs.declared.bearer.Bearer.TheVariants as bearer
-use Rattle.sb_sal.specs.Readers.{notes_reader}
-use Rattle.sb_sal.specs.Spellings.{may_stand}
 use Rattle.sb_declare.specs.declared.declarations.Declared.{Declared}
 use Rattle.sb_declare.specs.declared.sharing.Counted.{Counted}
 use Rattle.sb_declare.specs.declared.sharing.Listing as declared_listing
@@ -35,17 +32,17 @@ use Rattle.sb_derivation.specs.Parts.{notes_at}
 use Rattle.sb_declare.specs.Readers as reader
 use Rattle.sb_specifier.specs.Readers as specifier
 use Rattle.sb_initialiser.specs.Readers.{initialiser}
-use Rattle.sb_declare.specs.Readers.{Opening, Listing, misplaced_in, judged_by, declarator_in}
-use Rattle.sb_specifier.specs.Readers.{Declarator, Declarations, is_assign, is_pardon, name_in, place_in, place_of_base}
+use Rattle.sb_declare.specs.Readers.{Opening, Listing, all_stand, judged_by, declarator_in}
+use Rattle.sb_specifier.specs.Readers.{Declarator, Declarations, is_assign, name_in, place_in, place_of_base}
 use Rattle.sb_declarator.specs.Readers.{parts, declarators}
 use Rattle.sb_parse.specs.Texts.{with_text}
-use Rattle.sb_specifier.specs.Specified.{Specified, reading, declared, bearer_of, declares_function}
+use Rattle.sb_specifier.specs.Specified.{Specified, reading, declared, declares_function}
 
 -- its annotations are those with which its tokens begin
 
 abbrev pub plain_opening : List (List ℕ) → ℕ → declared_opening.Opening → Opening
 plain_opening texts below o =
-    record { outer = o.outer.now; notes = notes_at texts o.outer.now bearer.Any below o.tokens.now; noted = o.noted.now; specified = plain_specified o.specified; base = type_in (plain_specified o.specified); count = o.count }
+    record { outer = o.outer.now; notes = notes_at texts o.outer.now bearer.Function below o.tokens.now; noted = o.noted.now; specified = plain_specified o.specified; base = type_in (plain_specified o.specified); count = o.count }
 
 abbrev pub ReadsOpening : List (List ℕ) → ℕ → Outcome Token Opening → Result (Read declared_opening.Opening) ReadFault → Type 0
 ReadsOpening texts below o (Ok r) = o ≡ done (plain_opening texts below r.value) r.rest.now
@@ -76,17 +73,10 @@ plain_listing l = record { list = plain_decls l.list.items; types = l.types.item
 abbrev pub plain_declared : Declared → Declarations
 plain_declared ds = record { list = plain_decls ds.list.items; types = ds.types.items }
 
--- how many tokens before their end the first of these annotations begins that may not stand on this bearer
-abbrev pub misplacement : List (List ℕ) → ℕ → List Name → List Token → Bearer → Option ℕ
-misplacement texts below outer noted bearer = misplaced_in texts below (parts texts below) (notes_reader (reading texts outer) below (may_stand (reading texts outer) bearer) noted)
-
-abbrev pub pardon : ℕ → Parser Token (Option Token)
-pardon count = token (misplaced_before count) is_pardon >>= (λ t. pure (Some t))
-
--- the token that pardons annotations, where one is wanted
-abbrev pub pardoned : Option ℕ → ℕ → Parser Token (Option Token)
-pardoned None count = pure None
-pardoned (Some left) count = pardon (left + count)
+-- what judging annotations comes to: nothing where they may stand there, and else a fault
+abbrev pub Judges : List (List ℕ) → (function : Bool) → (noted : List Token) → ℕ → List Token → Result (Unit {0}) ReadFault → Type 0
+Judges texts function noted count ts (Ok u) = all_stand function noted ≡ true
+Judges texts function noted count ts (Err e) = IsFault (judged_by texts function noted count function ts) e
 
 abbrev pub is_typedef : Storage → Bool
 is_typedef storage.Typedef = true
@@ -97,10 +87,10 @@ declared_as storage None types = types
 declared_as storage (Some n) types = declared storage n.0 types
 
 -- a declarator on a type of this depth
-abbrev pub declarator_on : List (List ℕ) → ℕ → (outer : List Name) → (noted : List Token) → Storage → List Name → (depth count : ℕ) → Parser Token (Declarator × ℕ)
-declarator_on texts below outer noted storage types depth count =
+abbrev pub declarator_on : List (List ℕ) → ℕ → (noted : List Token) → Storage → List Name → (depth count : ℕ) → Parser Token (Declarator × ℕ)
+declarator_on texts below noted storage types depth count =
     with_text (with_text (declarators (reading texts types) (not (is_typedef storage)) false below (parts texts below) (below - depth) 0) >>= (λ d.
-    judged_by texts below (parts texts below) (misplacement texts below outer noted (bearer_of (declares_function d.0.pieces))) (count + length d.1) d.0)) >>= (λ d. pure (d.0, count + length d.1))
+    judged_by texts (declares_function d.0.pieces) noted (count + length d.1) d.0)) >>= (λ d. pure (d.0, count + length d.1))
 
 abbrev pub declaration_of : List NoteTree → Storage → TypeTree → Declarator → OptionalInit → tree.OptionalStmt → DeclTree
 declaration_of notes storage base d init body = tree.Decl (note_list notes) storage (typed base d.pieces) (name_in d.name) (place_in nowhere d.name) init body
@@ -112,11 +102,11 @@ behind texts below notes storage base ds types d = with_text (initialised (readi
 
 -- the annotations that declarators share
 abbrev pub notes_of : List (List ℕ) → ℕ → Shared → List NoteTree
-notes_of texts below s = notes_at texts s.outer.now bearer.Any below s.tokens.now
+notes_of texts below s = notes_at texts s.outer.now bearer.Function below s.tokens.now
 
 abbrev pub next_declarator : List (List ℕ) → ℕ → Shared → Listing → Parser Token Listing
 next_declarator texts below s l = token unexpected (is_mark (reading texts l.types) mark.Comma) >>= (λ t.
-    declarator_on texts below s.outer.now s.noted.now s.storage l.types (depth_of_type (plain_later s.later)) (suc l.count) >>= behind texts below (notes_of texts below s) s.storage (plain_later s.later) l.list l.types)
+    declarator_on texts below s.noted.now s.storage l.types (depth_of_type (plain_later s.later)) (suc l.count) >>= behind texts below (notes_of texts below s) s.storage (plain_later s.later) l.list l.types)
 
 abbrev pub next_declarators : List (List ℕ) → ℕ → Shared → Listing → Parser Token Listing
 next_declarators texts below s = looped (is_mark (reading texts []) mark.Comma) (next_declarator texts below s)
@@ -144,11 +134,11 @@ nameless_of notes storage s = record { list = tree.Decl (note_list notes) storag
 
 -- the semicolon behind the specifiers of a declaration without a name
 abbrev pub nameless_end : List (List ℕ) → ℕ → Shared → ℕ → Parser Token Token
-nameless_end texts below s count = pardoned (misplacement texts below s.outer.now s.noted.now bearer.Object) count >>= (λ p. token unexpected (is_mark (reading texts []) mark.Semicolon))
+nameless_end texts below s count = judged_by texts false s.noted.now count false >>= (λ p. token unexpected (is_mark (reading texts []) mark.Semicolon))
 
 -- behind the specifiers of a declaration without a name
 abbrev pub nameless_behind : List (List ℕ) → ℕ → Shared → Specified → ℕ → Parser Token Declarations
-nameless_behind texts below s specified count = pardoned (misplacement texts below s.outer.now s.noted.now bearer.Object) count >>= (λ p.
+nameless_behind texts below s specified count = judged_by texts false s.noted.now count false >>= (λ p.
     token unexpected (is_mark (reading texts specified.types) mark.Semicolon) >>= (λ c. pure (nameless_of (notes_of texts below s) s.storage specified)))
 
 abbrev pub nameless : List (List ℕ) → ℕ → Opening → Parser Token Declarations

@@ -14,15 +14,14 @@ use Rattle.sb_lexicon.specs.Lexicon.{Lexicon}
 use Rattle.sb_operand.specs.Pieces.{typed}
 use Rattle.sb_lexicon.specs.Tokens as expr
 use Rattle.sb_expr.specs.Readers.{expr_reader}
-use Rattle.sb_lexicon.specs.Tokens.{unexpected, too_deep, misplaced, misplaced_before, is_open_brace, is_comma}
+use Rattle.sb_lexicon.specs.Tokens.{unexpected, too_deep, misplaced_before, is_open_brace, is_comma}
 use Rattle.sb_lexicon.specs.Outcomes.{nowhere}
-use Rattle.sb_sal.specs.declared.bearer.Bearer.{Bearer}
 use Rattle.sb_sal.specs.declared.bearer.Bearer.TheVariants as bearer
 use Rattle.sb_sal.specs.Readers.{notes_reader}
 use Rattle.sb_sal.specs.Spellings.{may_stand}
 use Rattle.sb_specifier.specs.declared.seat.Seat.TheVariants as seat
-use Rattle.sb_specifier.specs.Specified.{declared, reading, Specified, storage_of, again, declares_function, bearer_of}
-use Rattle.sb_specifier.specs.Readers.{Declarations, Declarator, Parts, barred, begins_designator, designated, ends_nameless, is_assign, is_close_brace, is_pardon, is_semicolon, name_in, place_in, place_of_base, specifiers}
+use Rattle.sb_specifier.specs.Specified.{declared, reading, Specified, storage_of, again, declares_function}
+use Rattle.sb_specifier.specs.Readers.{Declarations, Declarator, Parts, barred, begins_designator, designated, ends_nameless, is_assign, is_close_brace, is_pardon, is_semicolon, shows_object, name_in, place_in, place_of_base, specifiers}
 use Rattle.sb_declarator.specs.Readers.{on, parts}
 use Rattle.sb_parse.specs.Texts.{with_text}
 use Rattle.sb_initialiser.specs.Readers.{initialiser}
@@ -54,32 +53,36 @@ is_typedef _ = false
 abbrev pub functions_in : Specified → Bool
 functions_in s = not (is_typedef (storage_of s))
 
+-- annotations, of these tokens, stand on functions alone
+abbrev pub all_stand : (function : Bool) → (noted : List Token) → Bool
+all_stand function [] = true
+all_stand function (t ∷ ts) = function
+
+-- A token that shows what is declared shows annotations misplaced that may not stand there, the first of them so many tokens before. No text goes on with another token but what pardons them:
+-- `_Ret_z_ int x;` is refused at `_Ret_z_`, `_Ret_z_ int x 5` at `5`, and at `x` where the tokens end behind it.
+abbrev pub pardoned : {A : Type 0} → List (List ℕ) → ℕ → A → Parser Token A
+pardoned texts count a = choose (shows_object (reading texts [])) (refuse (misplaced_before count)) (token unexpected is_pardon >>= (λ t. pure a))
+
+-- Nothing is read where the annotations, of these tokens and `count` tokens before, may stand on what is declared, a function or something else.
+abbrev pub judged_by : {A : Type 0} → List (List ℕ) → (function : Bool) → (noted : List Token) → ℕ → A → Parser Token A
+judged_by texts function noted count a = if all_stand function noted then pure a else pardoned texts (length noted + count) a
+
 -- `below`: how deep the parts of a declaration may be; `part k`: the readers of declarations that are at most `below - k` deep
 module _ (texts : List (List ℕ)) (below : ℕ) (part : ℕ → Parts) where
   -- ---- declarations in a scope (6.7)
 
   unfoldable pub opening : List Name → Parser Token Opening
-  opening types = with_text (notes_reader (reading texts types) below (may_stand (reading texts types) bearer.Any)) >>= (λ notes.
+  opening types = with_text (notes_reader (reading texts types) below (may_stand (reading texts types) bearer.Function)) >>= (λ notes.
       with_text (specifiers texts seat.Scope below part types) >>= (λ s.
       pure (record { outer = types; notes = notes.0; noted = notes.1; specified = s.0.0; base = s.0.1; count = length s.1 })))
 
-  -- how many tokens before their end the first of these annotations begins that may not stand there
-  abbrev pub misplaced_in : Outcome Token (List NoteTree) → Option ℕ
-  misplaced_in (done ns rest) = None
-  misplaced_in (stop n left) = if nat_eq n misplaced then Some left else None
-
-  abbrev pub judged_by : {A : Type 0} → Option ℕ → ℕ → A → Parser Token A
-  judged_by None count a = pure a
-  judged_by (Some left) count a = token (misplaced_before (left + count)) is_pardon >>= (λ t. pure a)
-
-  -- Nothing is read where each of the annotations may stand on this bearer, `count` tokens behind them, and else what pardons them.
-  abbrev pub judged : {A : Type 0} → Opening → Bearer → ℕ → A → Parser Token A
-  judged o bearer count a = judged_by (misplaced_in (notes_reader (reading texts o.outer) below (may_stand (reading texts o.outer) bearer) o.noted)) count a
+  abbrev pub judged : {A : Type 0} → Opening → (function : Bool) → ℕ → A → Parser Token A
+  judged o function count a = judged_by texts function o.noted count a
 
   -- a declarator, behind which the annotations are judged, with how many tokens stand behind the annotations then
   unfoldable pub declarator_in : Opening → List Name → TypeTree → ℕ → Parser Token (Declarator × ℕ)
   declarator_in o types base count = with_text (with_text (on texts below part types (functions_in o.specified) false base) >>= (λ d.
-      judged o (bearer_of (declares_function d.0.pieces)) (count + length d.1) d.0)) >>= (λ d. pure (d.0, count + length d.1))
+      judged o (declares_function d.0.pieces) (count + length d.1) d.0)) >>= (λ d. pure (d.0, count + length d.1))
 
   abbrev pub declared_by : Opening → Option (Name × Place) → List Name → List Name
   declared_by o None types = types
@@ -111,7 +114,7 @@ module _ (texts : List (List ℕ)) (below : ℕ) (part : ℕ → Parts) where
 
   -- a declaration that declares no name: at the place of its type
   unfoldable pub nameless : Opening → Place → Parser Token Declarations
-  nameless o place = judged o bearer.Object o.count (nameless_of o place) >>= (λ ds. token unexpected (is_semicolon (reading texts o.specified.types)) >>= (λ c. pure ds))
+  nameless o place = judged o false o.count (nameless_of o place) >>= (λ ds. token unexpected (is_semicolon (reading texts o.specified.types)) >>= (λ c. pure ds))
 
   unfoldable pub declaration_at : List Name → Parser Token Declarations
   declaration_at types = opening types >>= (λ o. choose (ends_nameless (reading texts types)) (nameless o (place_of_base o.base))

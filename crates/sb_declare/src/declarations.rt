@@ -17,7 +17,6 @@ use crate::sharing::{
 use crate::tails::behind;
 use sb_base::{Name, Names, Token};
 use sb_lexicon::{Lexicon, Read, ReadFault};
-use sb_sal::Bearer;
 use sb_sign::Mark;
 use sb_specifier::{Seat, Specified, barred, take_mark};
 use sb_tree::{Decl, Note, Storage, TypeName};
@@ -200,9 +199,9 @@ fn nameless_end<'a>(
     ensures notes { IfOk result
         (λ r. plain_notes r.value.1.items ≡ part.notes_of names.now.texts below shared.now) }
 {
-    let judged = judged(alloc, names, below, shared, Bearer::Object, count, tokens)?;
-    let end = take_mark(names, Mark::Semicolon, judged.rest)?;
-    let notes = notes_again(alloc, names, below, shared)?;
+    judged(names, shared.noted, false, count, tokens)?;
+    let end = take_mark(names, Mark::Semicolon, tokens)?;
+    let notes = notes_again(alloc, names, below, shared, 0)?;
     Ok(Read {
         value: (end.value, notes),
         rest: end.rest,

@@ -37,7 +37,7 @@ pub fn definition(
     ensures memory { IfErr result (λ e. e ≡ Memory) }
 {
     let common = shared(&opening);
-    let notes = notes_again(alloc, names, below, &common)?;
+    let notes = notes_again(alloc, names, below, &common, 0)?;
     let declared = first.declarator.name;
     let specified = opening.specified;
     let base = specified

@@ -10,5 +10,5 @@ mod tails;
 
 pub use declarations::{Declared, declaration, first_declarator, nameless, rest_of_declaration};
 pub use definitions::{definition, names_inside};
-pub use openings::{Opening, ends_nameless, is_nameless_next, opening_within};
+pub use openings::{Opening, is_nameless_next, opening_within};
 pub use sharing::Counted;

@@ -1,5 +1,5 @@
 //! What stands before and behind the declarators of a declaration in a scope (C99 6.7, 6.7.8).
-ghost use Rattle.std.specs.Prelude.{◌≡◌, ◌≤◌, ◌<◌, ◌-◌, length, take, IfOk};
+ghost use Rattle.std.specs.Prelude.{◌≡◌, false, ◌≤◌, ◌<◌, ◌-◌, length, take, IfOk};
 ghost use Rattle.sb_parse.specs.Parser.{at_next};
 ghost use Rattle.sb_lexicon.specs.Meaning.{meant};
 ghost use Rattle.sb_declarator.specs.Meaning.{inside};
@@ -9,10 +9,10 @@ ghost use Rattle.sb_declare.specs.Openings as part;
 ghost use Rattle.sb_declare.specs.Readers as declaration;
 ghost use Rattle.sb_specifier.specs.Readers as spec;
 
-use sb_base::{Name, Names, PpKind, Token};
+use sb_base::{Name, Names, Token};
 use sb_declarator::specifiers;
 use sb_initialiser::initialiser;
-use sb_lexicon::{Lexicon, Read, ReadFault, is_mark, is_mark_next};
+use sb_lexicon::{Lexicon, Read, ReadFault, is_mark_next};
 use sb_sal::{Bearer, notes_within};
 use sb_sign::Mark;
 use sb_specifier::{Seat, Specified, take_mark};
@@ -67,7 +67,7 @@ pub fn opening_within<'n, 'a>(
         types,
         in_note: false,
     };
-    let notes = notes_within(alloc, &lexicon, Bearer::Any, below, tokens)?;
+    let notes = notes_within(alloc, &lexicon, Bearer::Function, below, tokens)?;
     let found = specifiers(alloc, names, Seat::Scope, below, types, notes.rest)?;
     let noted = front(tokens, notes.rest);
     let count = front(notes.rest, found.rest).len();
@@ -83,27 +83,28 @@ pub fn opening_within<'n, 'a>(
     })
 }
 
-/// Whether a token pardons annotations that may not stand on a declarator. No file spells it.
-pub(crate) fn is_pardon(token: Token) -> bool
-    ensures { result ≡ spec.is_pardon token }
+/// A token's text is a number of 32 bits, so the token pardons nothing.
+#[tactic(auto, using(crate::proofs::steps::Pardons::none_spelled))]
+fn pardons_nothing(_token: Token)
+    ensures { spec.is_pardon _token ≡ false }
+{}
+
+/// No file spells a token that pardons annotations: its number is past those of every table.
+pub(crate) fn no_pardon(tokens: &[Token])
+    ensures { at_next spec.is_pardon tokens.now ≡ false }
 {
-    matches!(token.kind, PpKind::Header) && u64::from(token.text.0) > 8_589_934_592
+    if let Some(first) = tokens.first() {
+        pardons_nothing(*first);
+    }
 }
 
-/// Whether a declaration without a name ends with a token.
-pub fn ends_nameless(lexicon: &Lexicon, token: Token) -> bool
-    ensures { result ≡ spec.ends_nameless (meant lexicon.now) token }
-{
-    is_mark(lexicon, Mark::Semicolon, &token) || is_pardon(token)
-}
-
+/// Whether a declaration without a name ends with the next token.
+#[tactic(auto, using(crate::proofs::steps::Pardons::ends_as))]
 pub fn is_nameless_next(lexicon: &Lexicon, tokens: &[Token]) -> bool
     ensures { result ≡ at_next (spec.ends_nameless (meant lexicon.now)) tokens.now }
 {
-    match tokens.first() {
-        Some(token) => ends_nameless(lexicon, *token),
-        None => false,
-    }
+    no_pardon(tokens);
+    is_mark_next(lexicon, Mark::Semicolon, tokens)
 }
 
 /// The initialiser behind a declarator, where there is one.

@@ -1,21 +1,23 @@
 //! The declarators of one declaration in a scope (C99 6.7), and the annotations that may stand on each.
-ghost use Rattle.std.specs.Prelude.{◌≡◌, ◌≤◌, ◌<◌, ◌+◌, false, nat_eq, IfOk, IfErr};
+ghost use Rattle.std.specs.Prelude.{◌≡◌, ◌≤◌, ◌<◌, ◌+◌, false, [], IfOk, IfErr};
+ghost use Rattle.sb_parse.specs.Parser.{at_next};
 ghost use Rattle.sb_lexicon.specs.declared.reading.ReadFault.TheVariants.{Memory};
-ghost use Rattle.sb_lexicon.specs.Meaning.{stop_number, Gives, GivesAs};
-ghost use Rattle.sb_lexicon.specs.Tokens.{misplaced};
+ghost use Rattle.sb_lexicon.specs.Meaning.{GivesAs};
 ghost use Rattle.sb_tree.specs.Plain.{plain_notes};
 ghost use Rattle.sb_declare.specs.Openings.{plain_counted, plain_listing};
 ghost use Rattle.sb_declare.specs.Openings as part;
+ghost use Rattle.sb_declare.specs.Readers as declaration;
+ghost use Rattle.sb_specifier.specs.Readers.{shows_object};
 ghost use Rattle.sb_specifier.specs.Specified as specified;
 
-use crate::openings::{front, is_pardon};
+use crate::openings::{front, no_pardon};
 use crate::tails::behind;
 use sb_base::{Name, Names, Place, Token};
 use sb_declarator::declarator_within;
 use sb_derivation::Declarator;
 use sb_lexicon::{Lexicon, Read, ReadFault, Reason};
 use sb_sal::{Bearer, notes_within};
-use sb_sign::Mark;
+use sb_sign::{Mark, is_mark};
 use sb_specifier::{Later, declare, is_mark_next, take_mark};
 use sb_tree::{Decl, Note, Storage};
 use std::alloc::{AllocError, Global};
@@ -61,110 +63,86 @@ pub(crate) fn added(count: usize, more: usize) -> Result<usize, ReadFault>
 
 // ---- annotations
 
-/// Whether annotations were refused since one of them may not stand there.
-fn is_misplaced(reason: Reason) -> bool
-    ensures { result ≡ nat_eq (stop_number reason) misplaced }
+/// Whether a token behind a declarator shows that what is declared is no function, or that it is done.
+fn shows_object(names: &Names, token: &Token) -> bool
+    ensures { result ≡ shows_object (specified.reading names.now.texts []) token.now }
 {
-    matches!(reason, Reason::Misplaced)
+    is_mark(names, Mark::Comma, token)
+        || is_mark(names, Mark::Semicolon, token)
+        || is_mark(names, Mark::Assign, token)
+        || is_mark(names, Mark::OpenBrace, token)
 }
 
-/// How many tokens before their end the first of the annotations begins that may not stand on what is declared.
-fn misplacement(
-    alloc: Global,
-    names: &Names,
-    below: u32,
-    shared: &Shared,
-    bearer: Bearer,
-) -> Result<Option<usize>, ReadFault>
-    requires shallow { below < 200 }
-    ensures value { IfOk result
-        (λ m. m ≡ part.misplacement names.now.texts below shared.now.outer.now shared.now.noted.now
-        bearer) }
-    ensures memory { IfErr result (λ e. e ≡ Memory) }
+fn is_object_next(names: &Names, tokens: &[Token]) -> bool
+    ensures { result ≡ at_next (shows_object (specified.reading names.now.texts [])) tokens.now }
 {
-    let lexicon = Lexicon {
-        names,
-        types: shared.outer,
-        in_note: false,
-    };
-    match notes_within(alloc, &lexicon, bearer, below, shared.noted) {
-        Ok(_notes) => Ok(None),
-        Err(ReadFault::Refused { reason, left }) if is_misplaced(reason) => Ok(Some(left)),
-        Err(ReadFault::Refused { .. }) => Ok(None),
-        Err(ReadFault::Memory) => Err(ReadFault::Memory),
+    match tokens.first() {
+        Some(token) => shows_object(names, token),
+        None => false,
     }
 }
 
-/// The token that pardons annotations which begin so many tokens before it.
-fn take_pardon<'a>(count: usize, tokens: &'a [Token]) -> Result<Read<'a, Option<Token>>, ReadFault>
-    ensures { Gives (part.pardon count tokens.now) result }
+/// Whether annotations, of these tokens, may stand on what is declared, a function or something else.
+fn all_stand(function: bool, noted: &[Token]) -> bool
+    ensures { result ≡ declaration.all_stand function noted.now }
 {
-    match tokens.split_first() {
-        Some((first, rest)) if is_pardon(*first) => Ok(Read {
-            value: Some(*first),
-            rest,
-        }),
-        _ => Err(ReadFault::at(Reason::MisplacedBefore(count), tokens)),
+    match noted.first() {
+        Some(_first) => function,
+        None => true,
     }
 }
 
-/// Nothing where each of the annotations may stand on what is declared, `count` tokens behind them, and else what
-/// pardons them.
-pub(crate) fn judged<'a>(
-    alloc: Global,
+/// Annotations, of these tokens and `count` tokens before, that may stand on what is declared, a function or not. If they
+/// may not, the next token decides whether they are shown misplaced.
+#[tactic(auto, using(crate::proofs::steps::Pardons::none_pardoned))]
+pub(crate) fn judged(
     names: &Names,
-    below: u32,
-    shared: &Shared,
-    bearer: Bearer,
+    noted: &[Token],
+    function: bool,
     count: usize,
-    tokens: &'a [Token],
-) -> Result<Read<'a, Option<Token>>, ReadFault>
-    requires shallow { below < 200 }
-    ensures { Gives (part.pardoned
-        (part.misplacement names.now.texts below shared.now.outer.now shared.now.noted.now bearer)
-        count tokens.now) result }
+    tokens: &[Token],
+) -> Result<(), ReadFault>
+    ensures { part.Judges names.now.texts function noted.now count tokens.now result }
 {
-    match misplacement(alloc, names, below, shared, bearer)? {
-        None => Ok(Read {
-            value: None,
-            rest: tokens,
-        }),
-        Some(left) => take_pardon(added(left, count)?, tokens),
+    if all_stand(function, noted) {
+        return Ok(());
     }
+    no_pardon(tokens);
+    if is_object_next(names, tokens) {
+        let before = added(noted.len(), count)?;
+        return Err(ReadFault::at(Reason::MisplacedBefore(before), tokens));
+    }
+    Err(ReadFault::unexpected(tokens))
 }
 
-/// The annotations again: their trees have no copies.
+/// Annotations of at most so many tokens are kept for all declarators of a declaration behind its first one.
+const MOST_COPIED: usize = 10_000;
+
+/// The annotations again, behind so many declarations that have them: their trees have no copies.
 pub(crate) fn notes_again(
     alloc: Global,
     names: &Names,
     below: u32,
     shared: &Shared,
+    declared: usize,
 ) -> Result<Vec<Note>, ReadFault>
     requires shallow { below < 200 }
     ensures list { IfOk result
         (λ ns. plain_notes ns.items ≡ part.notes_of names.now.texts below shared.now) }
     ensures memory { IfErr result (λ e. e ≡ Memory) }
 {
+    if shared.noted.len().saturating_mul(declared) > MOST_COPIED {
+        return Err(ReadFault::Memory);
+    }
     let lexicon = Lexicon {
         names,
         types: shared.outer,
         in_note: false,
     };
-    match notes_within(alloc, &lexicon, Bearer::Any, below, shared.tokens) {
+    match notes_within(alloc, &lexicon, Bearer::Function, below, shared.tokens) {
         Ok(notes) => Ok(notes.list),
         // They were read before, so that only memory may be wanting.
         Err(_fault) => Err(ReadFault::Memory),
-    }
-}
-
-/// What a declarator declares, a function or something else.
-fn bearer_of(function: bool) -> Bearer
-    ensures { result ≡ specified.bearer_of function }
-{
-    if function {
-        Bearer::Function
-    } else {
-        Bearer::Object
     }
 }
 
@@ -206,32 +184,23 @@ pub(crate) fn declarator_on<'a>(
     requires fits { depth ≤ below }
     requires outside { lexicon.now.in_note ≡ false }
     ensures read { GivesAs (plain_counted lexicon.now.types.now)
-        (part.declarator_on lexicon.now.names.now.texts below shared.now.outer.now
-        shared.now.noted.now shared.now.storage lexicon.now.types.now depth count tokens.now)
-        result }
+        (part.declarator_on lexicon.now.names.now.texts below shared.now.noted.now
+        shared.now.storage lexicon.now.types.now depth count tokens.now) result }
 {
     // All tokens can be counted, so that no sum below is too large.
     let _most = added(count, tokens.len())?;
     let functions = !is_typedef(shared.storage);
     let room = below - depth;
     let found = declarator_within(alloc, lexicon, functions, false, below, room, tokens)?;
-    let bearer = bearer_of(found.value.declares_function());
+    let function = found.value.declares_function();
     let so_far = count + front(tokens, found.rest).len();
-    let judged = judged(
-        alloc,
-        lexicon.names,
-        below,
-        shared,
-        bearer,
-        so_far,
-        found.rest,
-    )?;
+    judged(lexicon.names, shared.noted, function, so_far, found.rest)?;
     Ok(Read {
         value: Counted {
             declarator: found.value,
-            count: count + front(tokens, judged.rest).len(),
+            count: so_far,
         },
-        rest: judged.rest,
+        rest: found.rest,
     })
 }
 

@@ -66,6 +66,7 @@ fn tail_behind<'a>(
     below: u32,
     shared: &Shared,
     types: &[Name],
+    declared: usize,
     count: usize,
     tokens: &'a [Token],
 ) -> Result<Tail<'a>, ReadFault>
@@ -78,7 +79,7 @@ fn tail_behind<'a>(
 {
     // All tokens can be counted, so that the sum below is not too large.
     let _most = added(count, tokens.len())?;
-    let notes = notes_again(alloc, names, below, shared)?;
+    let notes = notes_again(alloc, names, below, shared, declared)?;
     let lexicon = Lexicon {
         names,
         types,
@@ -138,7 +139,16 @@ pub(crate) fn behind<'a>(
     let declared = declarator.name;
     let made = made_of(alloc, storage, base, so_far.types, declarator)?;
     let types = made.types.as_slice();
-    let tail = tail_behind(alloc, names, below, shared, types, count, found.rest)?;
+    let tail = tail_behind(
+        alloc,
+        names,
+        below,
+        shared,
+        types,
+        so_far.list.len(),
+        count,
+        found.rest,
+    )?;
     let tree = declaration_of(
         tail.notes,
         storage,

@@ -15,9 +15,10 @@ use Rattle.sb_parse.specs.Descent.{choose_second}
 use Rattle.sb_expr.specs.Expression.{Conditional, Sequence}
 use Rattle.sb_lexicon.specs.Lexicon.{Lexicon, is_keyword, is_type_name}
 use Rattle.sb_expr.specs.Readers.{expr_reader}
-use Rattle.sb_lexicon.specs.Tokens.{unexpected, too_deep, bad_arguments, unknown_before, volatile, is_zero, is_open, is_close, is_star, is_open_brace, is_colon, begins_expr}
+use Rattle.sb_lexicon.specs.Tokens.{unexpected, too_deep, bad_arguments, unknown_before, misplaced_before, volatile, is_zero, is_open, is_close, is_star, is_open_brace, is_colon, begins_expr}
 use Rattle.sb_sal.specs.Readers.{is_bare}
-use Rattle.sb_sal.specs.Spellings.{begins_note, is_listed, is_unlisted}
+use Rattle.sb_sal.specs.declared.bearer.Bearer.TheVariants as bearer
+use Rattle.sb_sal.specs.Spellings.{begins_note, is_listed, is_unlisted, may_stand}
 use Rattle.sb_specifier.specs.declared.seat.Seat.TheVariants as seat
 use Rattle.sb_specifier.specs.Readers.{barred, is_close_brace, is_semicolon, is_name, is_storage_word, name_at, begins_declaration}
 use Rattle.sb_declare.specs.Readers.{declaration_reader}
@@ -55,6 +56,10 @@ names_declaration w t = begins_declaration w t && is_name w t
 -- a declaration can go on so behind a typedef name
 abbrev pub goes_on_type : Lexicon → Token → Bool
 goes_on_type w t = is_keyword w keyword.Const t || (is_keyword w keyword.Restrict t || (is_storage_word w t || (is_star w t || (is_open w t || (is_name w t || is_semicolon w t)))))
+
+-- an annotation that stands on no function stands on no declaration of a block
+abbrev pub is_misplaced : Lexicon → Token → Bool
+is_misplaced w t = is_listed w t && not (may_stand w bearer.Function t)
 
 -- how deep the parts of a declaration have to be that begins so: an annotation with arguments is one deeper than others
 abbrev pub room_for : Lexicon → Token → ℕ
@@ -238,7 +243,8 @@ module _ (texts : List (List ℕ)) (below : ℕ) (part : Parts) where
   unfoldable pub named_declaration : Body → Parser Token Body
   named_declaration b =
       choose (is_unlisted (reading texts b.types)) (only_label unknown_before (reading texts b.types))
-      (choose (λ t. nat_lt below (room_for (reading texts b.types) t)) (token unexpected (is_name (reading texts b.types)) >>= crowded (reading texts b.types)) (declaration_item b))
+      (choose (is_misplaced (reading texts b.types)) (only_label (misplaced_before 1) (reading texts b.types))
+      (choose (λ t. nat_lt below (room_for (reading texts b.types) t)) (token unexpected (is_name (reading texts b.types)) >>= crowded (reading texts b.types)) (declaration_item b)))
 
   -- a declaration or a label
   unfoldable pub named_item : Bool → Body → Parser Token Body

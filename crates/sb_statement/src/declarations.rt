@@ -12,7 +12,7 @@ use crate::values::{Body, DeclaredStatement};
 use sb_base::{Name, Names, Token};
 use sb_declare::declaration;
 use sb_lexicon::{Feature, Lexicon, Read, ReadFault, Reason, is_keyword_next, is_mark_next};
-use sb_sal::{is_bare, is_listed};
+use sb_sal::{Bearer, is_bare, is_listed, is_misplaced_next};
 use sb_sign::{Keyword, Mark};
 use sb_specifier::{Seat, barred};
 use sb_tree::Stmt;
@@ -130,6 +130,10 @@ pub fn named_declaration<'a>(
     if is_unlisted_next(&lexicon, body.rest) {
         let name = take_name(&lexicon, body.rest)?;
         return Err(ReadFault::at(Reason::UnknownAnnotationBefore, name.rest));
+    }
+    if is_misplaced_next(&lexicon, Bearer::Function, body.rest) {
+        let name = take_name(&lexicon, body.rest)?;
+        return Err(ReadFault::at(Reason::MisplacedBefore(1), name.rest));
     }
     if lacks_room(&lexicon, below, body.rest) {
         let name = take_name(&lexicon, body.rest)?;

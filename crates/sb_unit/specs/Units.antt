@@ -4,7 +4,6 @@ use Rattle.sb_base.specs.declared.interning.Name.{Name}
 use Rattle.sb_base.specs.declared.tokens.Token.{Token}
 use Rattle.sb_tree.specs.Trees as tree
 use Rattle.sb_tree.specs.Trees.{TypeTree, StmtTree, NoteTree}
-use Rattle.sb_sal.specs.declared.bearer.Bearer.TheVariants as bearer
 use Rattle.sb_declare.specs.Declaration.{IsDeclaration, Begins, IsJudged, declared_by, declaration_of}
 use Rattle.sb_specifier.specs.Declaration.{IsDeclarator}
 use Rattle.sb_specifier.specs.Readers.{Declarations, Declarator}
@@ -18,7 +17,7 @@ pub data IsExternal (texts : List (List ℕ)) : List Name → List Token → Dec
   declares : (types : List Name) (ts : List Token) (ds : Declarations) → IsDeclaration texts types ts ds → IsExternal texts types ts ds
   -- 6.9.1
   defines : (types : List Name) (xs ys zs js us : List Token) (notes : List NoteTree) (s : Specified) (base : TypeTree) (d : Declarator) (body : StmtTree) → Begins texts types xs ys notes s base
-      → IsDeclarator texts s.types (functions_in s) false zs d → declares_function d.pieces ≡ true → IsJudged (reading texts types) bearer.Function xs notes js
+      → IsDeclarator texts s.types (functions_in s) false zs d → declares_function d.pieces ≡ true → IsJudged true xs js
       → IsBlock texts false (declared_by s d.name d.inner) us body
       → IsExternal texts types (xs ++ (ys ++ (zs ++ (js ++ us)))) (record { list = declaration_of notes s base d tree.NoInit (tree.AStmt body) ∷ []; types = declared_by s d.name s.types })
 

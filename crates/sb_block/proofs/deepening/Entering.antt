@@ -14,7 +14,7 @@ use Rattle.sb_parse.specs.Descent.{at_second, choose_second}
 use Rattle.sb_expr.specs.Expression.{Sequence}
 use Rattle.sb_lexicon.specs.Lexicon.{Lexicon, is_keyword, is_type_name}
 use Rattle.sb_expr.specs.Readers.{expr_reader}
-use Rattle.sb_lexicon.specs.Tokens.{unexpected, too_deep, unknown_before, is_zero, is_open_brace, is_colon, begins_expr}
+use Rattle.sb_lexicon.specs.Tokens.{unexpected, too_deep, unknown_before, misplaced_before, is_zero, is_open_brace, is_colon, begins_expr}
 use Rattle.sb_parse.proofs.Ways.{second_fails, and_second, or_first, or_second}
 use Rattle.sb_sal.specs.Spellings.{begins_note, is_listed, is_unlisted}
 use Rattle.sb_sal.specs.Readers.{is_bare}
@@ -25,7 +25,7 @@ use Rattle.sb_declare.specs.Readers.{declaration_reader}
 use Rattle.sb_specifier.specs.Specified.{reading}
 use Rattle.sb_declarator.proofs.deepening.Members.{shrinks_text, past_front}
 use Rattle.sb_declare.proofs.deepening.Readers.{declaration_reader_deepens}
-use Rattle.sb_statement.specs.Readers.{Body, Parts, first_place, evaluated, selected, repeated, done_first, iterated, switched, labelled, case_of, default_of, begins_keyword_statement, is_label_keyword, begins_statement, room_for, crowded, declared, first, by_keyword, unlabelled, by_name, statement, declaration_item, statement_item, only_label, named_declaration, named_item, item, statements}
+use Rattle.sb_statement.specs.Readers.{Body, Parts, first_place, evaluated, selected, repeated, done_first, iterated, switched, labelled, case_of, default_of, begins_keyword_statement, is_label_keyword, begins_statement, is_misplaced, room_for, crowded, declared, first, by_keyword, unlabelled, by_name, statement, declaration_item, statement_item, only_label, named_declaration, named_item, item, statements}
 use Rattle.sb_statement.proofs.laws.Chains.{same_as_itself}
 use Rattle.sb_block.proofs.deepening.Shrinks.{past_choice, past_guard, barred_shrinks, expr_past, name_begins_expr, SmallParts, label_shrinks, label_past, crowded_shrinks, semicolon_shrinks, block_shrinks, block_past, evaluated_shrinks, evaluated_past, labelled_past, selected_past, switched_past, repeated_past, done_past, gone_past, broken_past, continued_past, returned_past, case_past, default_past, empty_past, iterated_past, statement_shrinks}
 
@@ -175,8 +175,8 @@ module _ (texts : List (List ℕ)) where
     pub named_declaration_shrinks : (b : Body) → Shrinks (named_declaration texts m part b)
     unfolding named_declaration
     named_declaration_shrinks b =
-        shrinks_choose _ _ _ (label_shrinks _ _)
-        (shrinks_choose _ _ _ (shrinks_then _ _ (shrinks_token _ _) (λ t. crowded_shrinks (reading texts b.types) t)) (declaration_item_shrinks b))
+        shrinks_choose _ _ _ (label_shrinks _ _) (shrinks_choose _ _ _ (label_shrinks _ _)
+        (shrinks_choose _ _ _ (shrinks_then _ _ (shrinks_token _ _) (λ t. crowded_shrinks (reading texts b.types) t)) (declaration_item_shrinks b)))
 
     pub item_shrinks : (cases : Bool) (b : Body) → Shrinks (item texts m part cases b)
     unfolding item named_item
@@ -228,12 +228,16 @@ module _ (texts : List (List ℕ)) (m : ℕ) (part : Parts) (S : SmallParts part
     unfolding named_declaration
     crowded_past few =
         past_choice (length ts) (at_next (is_unlisted (reading texts b.types)) ts) (only_label unknown_before (reading texts b.types) ts)
-        (choose (λ t. nat_lt m (room_for (reading texts b.types) t)) (token unexpected (is_name (reading texts b.types)) >>= crowded (reading texts b.types)) (declaration_item texts m part b) ts)
+        (choose (is_misplaced (reading texts b.types)) (only_label (misplaced_before 1) (reading texts b.types))
+        (choose (λ t. nat_lt m (room_for (reading texts b.types) t)) (token unexpected (is_name (reading texts b.types)) >>= crowded (reading texts b.types)) (declaration_item texts m part b)) ts)
         (λ h. label_past unknown_before (reading texts b.types) ts named) (λ h.
+        past_choice (length ts) (at_next (is_misplaced (reading texts b.types)) ts) (only_label (misplaced_before 1) (reading texts b.types) ts)
+        (choose (λ t. nat_lt m (room_for (reading texts b.types) t)) (token unexpected (is_name (reading texts b.types)) >>= crowded (reading texts b.types)) (declaration_item texts m part b) ts)
+        (λ h. label_past (misplaced_before 1) (reading texts b.types) ts named) (λ h.
         past_choice (length ts) (at_next (λ t. nat_lt m (room_for (reading texts b.types) t)) ts)
         ((token unexpected (is_name (reading texts b.types)) >>= crowded (reading texts b.types)) ts) (declaration_item texts m part b ts)
         (λ k. enters unexpected (is_name (reading texts b.types)) (crowded (reading texts b.types)) (crowded_shrinks (reading texts b.types)) ts named)
-        (λ k. absurd (let both : true ≡ false = sym few ∙ k in cc both)))
+        (λ k. absurd (let both : true ≡ false = sym few ∙ k in cc both))))
 
     pub either_past : at_next (λ t. nat_lt m (room_for (reading texts b.types) t)) ts ≡ true
         → Past (length ts) (choose_second (is_colon (reading texts b.types)) (statement_item texts m part cases b) (named_declaration texts m part b) ts)

@@ -5,7 +5,7 @@ use Rattle.sb_base.specs.declared.tokens.Token.{Token}
 use Rattle.sb_parse.specs.Parser.{Outcome, Parser, done, stop, at_next, and_then, ◌>>=◌, token, choose}
 use Rattle.sb_parse.specs.Descent.{at_second, choose_second}
 use Rattle.sb_lexicon.specs.Lexicon.{Lexicon}
-use Rattle.sb_lexicon.specs.Tokens.{unexpected, too_deep, unknown_before, is_zero, is_colon}
+use Rattle.sb_lexicon.specs.Tokens.{unexpected, too_deep, unknown_before, misplaced_before, is_zero, is_colon}
 use Rattle.sb_parse.proofs.Ways.{and_second}
 use Rattle.sb_lexicon.proofs.Wider.{Wider, zero_wider, room_wider}
 use Rattle.sb_sal.specs.Spellings.{is_unlisted}
@@ -15,12 +15,12 @@ use Rattle.sb_declare.specs.Readers.{declaration_reader}
 use Rattle.sb_specifier.specs.Specified.{reading}
 use Rattle.sb_declarator.proofs.deepening.Members.{text_deepens}
 use Rattle.sb_declare.proofs.deepening.Readers.{declaration_reader_deepens}
-use Rattle.sb_statement.specs.Readers.{Body, Parts, names_declaration, room_for, crowded, only_label, declared, first, declaration_item, statement_item, named_declaration, named_item, item}
+use Rattle.sb_statement.specs.Readers.{Body, Parts, names_declaration, is_misplaced, room_for, crowded, only_label, declared, first, declaration_item, statement_item, named_declaration, named_item, item}
 use Rattle.sb_statement.proofs.widening.Starts.{second_so}
 use Rattle.sb_statement.proofs.widening.Crowded.{first_so}
 use Rattle.sb_statement.proofs.deepening.Named.{crowded_deeper}
 use Rattle.sb_block.proofs.deepening.Entering.{named_declaration_shrinks, item_shrinks, item_past, either_past, one_few}
-use Rattle.sb_block.proofs.deepening.Statements.{DeepParts, least, unknown_not_deep, small, evaluated_deepens, semicolon_deepens, statement_deepens, label_deepens}
+use Rattle.sb_block.proofs.deepening.Statements.{DeepParts, least, unknown_not_deep, misplaced_not_deep, small, evaluated_deepens, semicolon_deepens, statement_deepens, label_deepens}
 
 -- outcomes that are the same from a depth on
 deep_same : {A : Type 0} (n most : ℕ) (o p : ℕ → Outcome Token A) → ((m : ℕ) → n ≤ m → p m ≡ o m) → Deep n most o → Deep n most p
@@ -70,31 +70,33 @@ module _ (texts : List (List ℕ)) (n : ℕ) (part : ℕ → Parts) (Inner : Dee
         by_room m = if nat_lt m (room_for w t) then without_room else declaration_item texts m (part m) b (t ∷ ts)
 
         -- with room for labels, but not for all declarations
-        item_is : at_second (is_colon w) (t ∷ ts) ≡ false → is_unlisted w t ≡ false → (m : ℕ) → is_zero m ≡ false → item texts m (part m) cases b (t ∷ ts) ≡ by_room m
+        item_is : at_second (is_colon w) (t ∷ ts) ≡ false → is_unlisted w t ≡ false → is_misplaced w t ≡ false → (m : ℕ) → is_zero m ≡ false → item texts m (part m) cases b (t ∷ ts) ≡ by_room m
         unfolding item named_item named_declaration
-        item_is second listed m room = first_so _ _ _ _ names (second_so _ _ _ _ room (second_so _ _ _ _ second (second_so _ _ _ _ listed refl)))
+        item_is second listed placed m room = first_so _ _ _ _ names (second_so _ _ _ _ room (second_so _ _ _ _ second (second_so _ _ _ _ listed (second_so _ _ _ _ placed refl))))
 
-        module _ (room : is_zero n ≡ false) (second : at_second (is_colon w) (t ∷ ts) ≡ false) (listed : is_unlisted w t ≡ false) where
+        module _ (room : is_zero n ≡ false) (second : at_second (is_colon w) (t ∷ ts) ≡ false) (listed : is_unlisted w t ≡ false) (placed : is_misplaced w t ≡ false) where
           by_few : (c : Bool) → nat_lt n (room_for w t) ≡ c → Deep n all by_room
           by_few false h =
               deep_same n all (λ m. declaration_item texts m (part m) b (t ∷ ts)) by_room
               (λ m le. ap (λ c. if c then without_room else declaration_item texts m (part m) b (t ∷ ts)) (room_wider n m (room_for w t) le h)) (at_list n (λ m. declaration_item texts m (part m) b) declaration_item_deepens (t ∷ ts))
           by_few true h = record {
             wide = λ m le. moved (by_room n) (by_room m) (item texts n (part n) cases b (t ∷ ts)) (item texts m (part m) cases b (t ∷ ts))
-                (sym (item_is second listed n room)) (sym (item_is second listed m (zero_wider n m le room))) (Wide m le (t ∷ ts));
-            shrinks = λ m le. subst (AtMost all) (item_is second listed m (zero_wider n m le room)) (most_at (item texts m (part m) cases b) (item_shrinks texts m (part m) (small texts n part Inner m le) cases b) (t ∷ ts));
+                (sym (item_is second listed placed n room)) (sym (item_is second listed placed m (zero_wider n m le room))) (Wide m le (t ∷ ts));
+            shrinks = λ m le. subst (AtMost all) (item_is second listed placed m (zero_wider n m le room)) (most_at (item texts m (part m) cases b) (item_shrinks texts m (part m) (small texts n part Inner m le) cases b) (t ∷ ts));
             deeper = λ left e.
                 let shut : crowded w t ts ≡ stop too_deep left =
                 sym (ap (λ c. and_then (if c then done t ts else stop unexpected all) (crowded {A = Body} w)) named) ∙ sym (ap (λ c. if c then without_room else declaration_item texts n (part n) b (t ∷ ts)) h) ∙ e in
-                let d : (m : ℕ) × (n ≤ m) × (nat_lt m (room_for w t) ≡ false) × Past left (declaration_reader texts m b.types (t ∷ ts)) = crowded_deeper texts b.types n t ts left names listed shut in
+                let d : (m : ℕ) × (n ≤ m) × (nat_lt m (room_for w t) ≡ false) × Past left (declaration_reader texts m b.types (t ∷ ts)) = crowded_deeper texts b.types n t ts left names listed placed shut in
                 (d.0, d.1, subst (λ c. Past left (if c then without_room else declaration_item texts d.0 (part d.0) b (t ∷ ts))) (sym d.2) (item_past texts d.0 (part d.0) (small texts n part Inner d.0 d.1) cases b left (t ∷ ts) d.3));
           }
 
         named_deep : is_zero n ≡ false → at_second (is_colon w) (t ∷ ts) ≡ false → Deep n all (λ m. named_declaration texts m (part m) b (t ∷ ts))
         unfolding named_declaration
         named_deep room second =
-            deep_choice n all (is_unlisted w t) (λ m. only_label unknown_before w (t ∷ ts)) by_room (λ h. at_list n (λ m. only_label unknown_before w) (label_deepens texts n part Inner b.types unknown_before unknown_not_deep) (t ∷ ts))
-            (λ listed. by_few room second listed (nat_lt n (room_for w t)) refl)
+            deep_choice n all (is_unlisted w t) (λ m. only_label unknown_before w (t ∷ ts)) (λ m. if is_misplaced w t then only_label (misplaced_before 1) w (t ∷ ts) else by_room m) (λ h. at_list n (λ m. only_label unknown_before w) (label_deepens texts n part Inner b.types unknown_before unknown_not_deep) (t ∷ ts))
+            (λ listed. deep_choice n all (is_misplaced w t) (λ m. only_label (misplaced_before 1) w (t ∷ ts)) by_room
+            (λ h. at_list n (λ m. only_label (misplaced_before 1) w) (label_deepens texts n part Inner b.types (misplaced_before 1) misplaced_not_deep) (t ∷ ts))
+            (λ placed. by_few room second listed placed (nat_lt n (room_for w t)) refl))
 
         abbrev either : ℕ → Parser Token Body
         either m = choose_second (is_colon w) (statement_item texts m (part m) cases b) (named_declaration texts m (part m) b)

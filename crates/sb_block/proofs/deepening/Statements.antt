@@ -12,7 +12,7 @@ use Rattle.sb_parse.specs.Descent.{choose_second}
 use Rattle.sb_expr.specs.Expression.{Conditional, Sequence}
 use Rattle.sb_lexicon.specs.Lexicon.{Lexicon, is_keyword}
 use Rattle.sb_expr.specs.Readers.{expr_reader}
-use Rattle.sb_lexicon.specs.Tokens.{unexpected, too_deep, unknown_before, is_zero, is_open, is_close, is_open_brace, is_colon}
+use Rattle.sb_lexicon.specs.Tokens.{unexpected, too_deep, unknown_before, misplaced_before, is_zero, is_open, is_close, is_open_brace, is_colon}
 use Rattle.sb_parse.proofs.Ways.{and_second}
 use Rattle.sb_lexicon.proofs.Wider.{zero_wider}
 use Rattle.sb_sal.proofs.Deepening.{Past, Shrinks, Deepens, Deep, at_list, most_at, deep_guard, shrinks_token, shrinks_then, still_pure, still_refuse, in_order, choosing, choosing_where, choosing_second, turning, open_zero}
@@ -36,6 +36,9 @@ pub record DeepParts (n : ℕ) (part : ℕ → Parts) : Type 0 where
 
 pub unknown_not_deep : unknown_before ≡ too_deep → ⊥
 unknown_not_deep e = cc e
+
+pub misplaced_not_deep : misplaced_before 1 ≡ too_deep → ⊥
+misplaced_not_deep e = cc e
 
 pub least : (n m : ℕ) → is_zero n ≡ true → n ≤ m
 least zero m h = omega arith

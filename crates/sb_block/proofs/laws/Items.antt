@@ -14,7 +14,7 @@ use Rattle.sb_tree.specs.Trees.{StmtTree, depth_of_stmt, depth_of_decls}
 use Rattle.sb_tree.specs.Plain.{decl_list}
 use Rattle.sb_lexicon.specs.Lexicon.{Lexicon, is_keyword, is_type_name, begins_type, name_of}
 use Rattle.sb_expr.specs.Expression.{Sequence}
-use Rattle.sb_lexicon.specs.Tokens.{unexpected, too_deep, bad_arguments, unknown_before, volatile, is_zero, is_open, is_colon}
+use Rattle.sb_lexicon.specs.Tokens.{unexpected, too_deep, bad_arguments, unknown_before, misplaced_before, volatile, is_zero, is_open, is_colon}
 use Rattle.sb_expr.proofs.tokens.Begins.{begins_with_no_type}
 use Rattle.sb_lexicon.proofs.Depths.{room_is, some_room, within_room}
 use Rattle.sb_lexicon.proofs.Marks.{colon_token}
@@ -31,7 +31,7 @@ use Rattle.sb_specifier.specs.Readers.{is_name, is_close_brace, begins_declarati
 use Rattle.sb_specifier.proofs.laws.Barring.{barred_refuses}
 use Rattle.sb_parse.proofs.Choices.{Elsewhere, hiding}
 use Rattle.sb_declare.proofs.laws.Readers.{declaration_depth}
-use Rattle.sb_statement.specs.Readers.{Body, Parts, names_declaration, room_for, crowded, only_label, goes_on_type, labelled, unlabelled, by_name, statement, statement_item, declaration_item, named_declaration, named_item, item, by_keyword, evaluated}
+use Rattle.sb_statement.specs.Readers.{Body, Parts, names_declaration, is_misplaced, room_for, crowded, only_label, goes_on_type, labelled, unlabelled, by_name, statement, statement_item, declaration_item, named_declaration, named_item, item, by_keyword, evaluated}
 use Rattle.sb_statement.specs.Statement.{IsStatement, IsDeclared, is_empty}
 use Rattle.sb_statement.proofs.laws.Chains.{AMark, heads_of, flipped, sign_declares_none, heads_no_declaration}
 use Rattle.sb_statement.proofs.laws.Fits.{plain, more_body, FitsStatement, OneItem, LawfulStatements}
@@ -133,19 +133,41 @@ module _ (texts : List (List ℕ)) (below : ℕ) (part : Parts) (cases : Bool) (
     unlisted_none : is_unlisted w o ≡ true → (ts : List Token) (c : Body) → DeclaredItem (o ∷ ts) c → ⊥
     unlisted_none k ts c m = let both : true ≡ false = sym k ∙ listed_only _ ts (the_declaration ts c m) in cc both
 
+    -- the readers behind the tests of annotations
+    abbrev after_placed : Parser Token Body
+    after_placed = choose (λ t. nat_lt below (room_for w t)) (token unexpected (is_name w) >>= crowded w) (declaration_item texts below part b)
+
+    abbrev after_unlisted : Parser Token Body
+    after_unlisted = choose (is_misplaced w) (only_label (misplaced_before 1) w) after_placed
+
     unlisted_refuses : is_unlisted w o ≡ true → (ts : List Token) → Refuses (behind o (named_declaration texts below part b)) ts
     unfolding named_declaration only_label
     unlisted_refuses k ts = record {
       number = unknown_before;
       halts = λ x e.
           ap (λ c. if c then only_label unknown_before w (o ∷ x)
-          else choose (λ t. nat_lt below (room_for w t)) (token unexpected (is_name w) >>= crowded w) (declaration_item texts below part b) (o ∷ x)) k
+          else after_unlisted (o ∷ x)) k
           ∙ ap (λ c. and_then (if c then done o x else stop unexpected (length (o ∷ x))) (λ t. refuse {A = Body} unknown_before)) named;
+    }
+
+    -- ---- an annotation that stands on no function
+
+    misplaced_none : is_misplaced w o ≡ true → (ts : List Token) (c : Body) → DeclaredItem (o ∷ ts) c → ⊥
+    misplaced_none k ts c m = let both : true ≡ false = sym k ∙ (the_declaration ts c m).placed in cc both
+
+    misplaced_refuses : is_unlisted w o ≡ false → is_misplaced w o ≡ true → (ts : List Token) → Refuses (behind o (named_declaration texts below part b)) ts
+    unfolding named_declaration only_label
+    misplaced_refuses listed k ts = record {
+      number = misplaced_before 1;
+      halts = λ x e.
+          ap (λ c. if c then only_label unknown_before w (o ∷ x) else after_unlisted (o ∷ x)) listed
+          ∙ ap (λ c. if c then only_label (misplaced_before 1) w (o ∷ x) else after_placed (o ∷ x)) k
+          ∙ ap (λ c. and_then (if c then done o x else stop unexpected (length (o ∷ x))) (λ t. refuse {A = Body} (misplaced_before 1))) named;
     }
 
     -- ---- where no declaration has room
 
-    module _ (listed : is_unlisted w o ≡ false) (full : nat_lt below (room_for w o) ≡ true) where
+    module _ (listed : is_unlisted w o ≡ false) (placed : is_misplaced w o ≡ false) (full : nat_lt below (room_for w o) ≡ true) where
       deep_enough : (depth : ℕ) (ts : List Token) → NamedDeclaration texts b.types o ts depth → 2 ≤ depth → room_for w o ≤ depth
       deep_enough depth ts d two = by_test (is_listed w o && not (notes.is_bare w o)) refl
         where
@@ -199,19 +221,20 @@ module _ (texts : List (List ℕ)) (below : ℕ) (part : Parts) (cases : Bool) (
             number = it.number;
             halts = λ x e.
                 ap (λ c. if c then only_label unknown_before w (o ∷ x)
-                else choose (λ t. nat_lt below (room_for w t)) (token unexpected (is_name w) >>= crowded w) (declaration_item texts below part b) (o ∷ x)) listed
+                else after_unlisted (o ∷ x)) listed
+                ∙ ap (λ c. if c then only_label (misplaced_before 1) w (o ∷ x) else after_placed (o ∷ x)) placed
                 ∙ ap (λ c. if c then and_then (token unexpected (is_name w) (o ∷ x)) (crowded w) else declaration_item texts below part b (o ∷ x)) full
                 ∙ ap (λ c. and_then (if c then done o x else stop unexpected (length (o ∷ x))) (crowded {A = Body} w)) named ∙ it.halts x e;
           }
 
     -- ---- where a declaration has room
 
-    module _ (listed : is_unlisted w o ≡ false) (room : nat_lt below (room_for w o) ≡ false) where
+    module _ (listed : is_unlisted w o ≡ false) (placed : is_misplaced w o ≡ false) (room : nat_lt below (room_for w o) ≡ false) where
       two : 2 ≤ below
       two = le_trans (two_at_least (is_listed w o && not (notes.is_bare w o))) (within_room below (room_for w o) room)
 
       begun : BeginsSome texts b.types below o
-      begun = begins_some texts b.types below o h listed room
+      begun = begins_some texts b.types below o h listed placed room
 
       not_empty : (c : Body) → DeclaredItem [] c → ⊥
       not_empty c m = let none : false ≡ true = item_begins texts below part b [] c m in cc none
@@ -223,7 +246,8 @@ module _ (texts : List (List ℕ)) (below : ℕ) (part : Parts) (cases : Bool) (
       unfolding named_declaration
       same_declaration ts =
           ap (λ c. if c then only_label unknown_before w (o ∷ ts)
-          else choose (λ t. nat_lt below (room_for w t)) (token unexpected (is_name w) >>= crowded w) (declaration_item texts below part b) (o ∷ ts)) listed
+          else after_unlisted (o ∷ ts)) listed
+          ∙ ap (λ c. if c then only_label (misplaced_before 1) w (o ∷ ts) else after_placed (o ∷ ts)) placed
           ∙ ap (λ c. if c then and_then (token unexpected (is_name w) (o ∷ ts)) (crowded w) else declaration_item texts below part b (o ∷ ts)) room
 
       named_law : Lawful (Behind o NamedItem) (more_body texts) (behind o (named_declaration texts below part b))
@@ -244,13 +268,17 @@ module _ (texts : List (List ℕ)) (below : ℕ) (part : Parts) (cases : Bool) (
     behind_name : Law
     behind_name = by_unlisted (is_unlisted w o) refl
       where
-        by_room : (c : Bool) → is_unlisted w o ≡ false → nat_lt below (room_for w o) ≡ c → Law
-        by_room true listed full = only_labels (crowded_refuses listed full) (crowded_none listed full)
-        by_room false listed room = roomy listed room
+        by_room : (c : Bool) → is_unlisted w o ≡ false → is_misplaced w o ≡ false → nat_lt below (room_for w o) ≡ c → Law
+        by_room true listed placed full = only_labels (crowded_refuses listed placed full) (crowded_none listed placed full)
+        by_room false listed placed room = roomy listed placed room
+
+        by_place : (c : Bool) → is_unlisted w o ≡ false → is_misplaced w o ≡ c → Law
+        by_place true listed k = only_labels (misplaced_refuses listed k) (misplaced_none k)
+        by_place false listed k = by_room (nat_lt below (room_for w o)) listed k refl
 
         by_unlisted : (c : Bool) → is_unlisted w o ≡ c → Law
         by_unlisted true k = only_labels (unlisted_refuses k) (unlisted_none k)
-        by_unlisted false k = by_room (nat_lt below (room_for w o)) k refl
+        by_unlisted false k = by_place (is_misplaced w o) k refl
 
   named_begins : (ts : List Token) (c : Body) → Either LabelItem NamedItem ts c → at_next names ts ≡ true
   named_begins ts c (inl is) = is.1

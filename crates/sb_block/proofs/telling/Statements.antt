@@ -13,7 +13,7 @@ use Rattle.sb_tree.specs.Trees.{StmtTree}
 use Rattle.sb_parse.specs.Descent.{choose_second}
 use Rattle.sb_expr.specs.Expression.{Conditional, Sequence}
 use Rattle.sb_lexicon.specs.Lexicon.{Lexicon, is_keyword, is_type_name}
-use Rattle.sb_lexicon.specs.Tokens.{unexpected, too_deep, bad_arguments, unknown_before, volatile, is_zero, is_open, is_close, is_colon, is_open_brace, begins_expr}
+use Rattle.sb_lexicon.specs.Tokens.{unexpected, too_deep, bad_arguments, unknown_before, misplaced_before, volatile, is_zero, is_open, is_close, is_colon, is_open_brace, begins_expr}
 use Rattle.sb_lexicon.proofs.Lexemes.{keyword_is}
 use Rattle.sb_parse.proofs.Ways.{or_first, or_second, and_first, and_second}
 use Rattle.sb_sal.specs.Readers as notes
@@ -31,8 +31,8 @@ use Rattle.sb_parse.proofs.Telling.{Reasons, Tells, Telling, TellingAt, tells_be
 use Rattle.sb_specifier.proofs.telling.Reasons.{reasons, expr_telling}
 use Rattle.sb_specifier.proofs.telling.Shown.{barred_telling}
 use Rattle.sb_declare.proofs.telling.Declarations.{declarations_telling}
-use Rattle.sb_statement.specs.Readers.{Body, First, Parts, begins_statement, begins_keyword_statement, is_label_keyword, expression, in_parentheses, semicolon, block, evaluated, empty, declared, other, selected, switched, repeated, done_first, optional, first, gone, broken, continued, returned, labelled, case_of, default_of, stepped, iterated, by_keyword, only_label, unlabelled, by_name, statement, declaration_item, statement_item, names_declaration, room_for, crowded, goes_on_type, named_declaration, named_item, item, whole_parts, statements}
-use Rattle.sb_statement.specs.Reasons.{IsUnitReason, in_declaration, deeper, deeper_type, deeper_note, no_annotation, no_text}
+use Rattle.sb_statement.specs.Readers.{Body, First, Parts, begins_statement, begins_keyword_statement, is_label_keyword, expression, in_parentheses, semicolon, block, evaluated, empty, declared, other, selected, switched, repeated, done_first, optional, first, gone, broken, continued, returned, labelled, case_of, default_of, stepped, iterated, by_keyword, only_label, unlabelled, by_name, statement, declaration_item, statement_item, names_declaration, is_misplaced, room_for, crowded, goes_on_type, named_declaration, named_item, item, whole_parts, statements}
+use Rattle.sb_statement.specs.Reasons.{IsUnitReason, in_declaration, deeper, deeper_type, deeper_note, no_annotation, no_place, no_text}
 
 module _ (texts : List (List ℕ)) where
   -- the reasons stay so behind more tokens
@@ -45,6 +45,7 @@ module _ (texts : List (List ℕ)) where
   further xs front bad _ (deeper_type now before rest t s e h k) = deeper_type now (xs ++ before) rest t s (longer xs before (t ∷ []) front e) h k
   further xs front bad _ (deeper_note now before rest t s e h k l) = deeper_note now (xs ++ before) rest t s (longer xs before (t ∷ []) front e) h k l
   further xs front bad _ (no_annotation now before t e h k) = no_annotation now (xs ++ before) t (longer xs before (t ∷ []) front e) h k
+  further xs front bad _ (no_place now before t e h k) = no_place now (xs ++ before) t (longer xs before (t ∷ []) front e) h k
   further xs front bad _ no_text = no_text
 
   abbrev pub unit_reasons : Reasons Token
@@ -290,7 +291,7 @@ module _ (texts : List (List ℕ)) where
           stops n why = record { front = t ∷ []; bad = ts; split = refl; left_is = refl; why = why }
 
           bad_note : IsBadArguments now (t ∷ []) ts → IsUnitReason texts (t ∷ []) ts bad_arguments
-          bad_note r = in_declaration [] (t ∷ []) bad_arguments refl (in_notes types bearer.Any [] (t ∷ []) bad_arguments refl (other_arguments r))
+          bad_note r = in_declaration [] (t ∷ []) bad_arguments refl (in_notes types bearer.Function [] (t ∷ []) bad_arguments refl (other_arguments r))
 
           opened : notes.is_bare now t ≡ true → at_next (is_open now) ts ≡ true → Tells W {A = A} (t ∷ ts) (stop bad_arguments (length ts))
           opened h k = let o = next_is (is_open now) ts k in stops bad_arguments (bad_note (takes_nothing [] o.1 t o.0 refl o.2 h o.3))
@@ -344,10 +345,13 @@ module _ (texts : List (List ℕ)) where
       unfolding named_declaration
       named_tells t ts k =
           by_choice W (is_unlisted outer t) (only_label unknown_before outer (t ∷ ts))
-          (choose (λ t. nat_lt below (room_for outer t)) (token unexpected (is_name outer) >>= crowded outer) (declaration_item texts below part b) (t ∷ ts)) (t ∷ ts)
+          (choose (is_misplaced outer) (only_label (misplaced_before 1) outer) (choose (λ t. nat_lt below (room_for outer t)) (token unexpected (is_name outer) >>= crowded outer) (declaration_item texts below part b)) (t ∷ ts)) (t ∷ ts)
           (λ h. alone_tells b.types Body unknown_before t ts (no_annotation b.types [] t refl h k))
+          (λ h. by_choice W (is_misplaced outer t) (only_label (misplaced_before 1) outer (t ∷ ts))
+          (choose (λ t. nat_lt below (room_for outer t)) (token unexpected (is_name outer) >>= crowded outer) (declaration_item texts below part b) (t ∷ ts)) (t ∷ ts)
+          (λ h. alone_tells b.types Body (misplaced_before 1) t ts (no_place b.types [] t refl h k))
           (λ h. by_choice W (nat_lt below (room_for outer t)) (and_then (token unexpected (is_name outer) (t ∷ ts)) (crowded outer)) (declaration_item texts below part b (t ∷ ts)) (t ∷ ts)
-          (λ l. token_turn W (is_name outer) (crowded outer) (λ u m rest. crowded_tells b.types Body u rest) (t ∷ ts)) (λ l. declaration_item_tells (t ∷ ts)))
+          (λ l. token_turn W (is_name outer) (crowded outer) (λ u m rest. crowded_tells b.types Body u rest) (t ∷ ts)) (λ l. declaration_item_tells (t ∷ ts))))
 
       named_item_tells : (cases : Bool) → TellingAt W (is_name outer) (named_item texts below part cases b)
       unfolding named_item

@@ -21,7 +21,7 @@ use Rattle.sb_declare.specs.Readers.{declaration_at, declaration_reader}
 use Rattle.sb_declarator.specs.Readers.{parts}
 use Rattle.sb_specifier.specs.Specified.{reading}
 use Rattle.sb_declare.proofs.widening.Readers.{declaration_reader_wider}
-use Rattle.sb_statement.specs.Readers.{Body, Parts, names_declaration, room_for, goes_on_type, crowded, declared, first_place, declaration_item, named_declaration, statements}
+use Rattle.sb_statement.specs.Readers.{Body, Parts, names_declaration, is_misplaced, room_for, goes_on_type, crowded, declared, first_place, declaration_item, named_declaration, statements}
 use Rattle.sb_statement.proofs.tokens.Names.{name_specifies_none}
 use Rattle.sb_statement.proofs.widening.Crowded.{Alike, deep, stops, behind_bare, behind_applied}
 use Rattle.sb_statement.proofs.widening.Typed.{behind_type}
@@ -53,9 +53,9 @@ module _ (texts : List (List ℕ)) (k : ℕ) (part : Parts) (b : Body) where
       by_tests false false true no_word no_note h = absurd (cc no_note)
       by_tests false false false no_word no_note h = absurd (cc h)
 
-  crowded_alike : (t : Token) (ts : List Token) → begins_declaration w t ≡ true → is_name w t ≡ true → is_unlisted w t ≡ false → nat_lt (suc (suc k)) (room_for w t) ≡ false
+  crowded_alike : (t : Token) (ts : List Token) → begins_declaration w t ≡ true → is_name w t ≡ true → is_unlisted w t ≡ false → is_misplaced w t ≡ false → nat_lt (suc (suc k)) (room_for w t) ≡ false
       → Alike {A = Body} (crowded w t ts) (declaration_at texts (suc k) (parts texts (suc k)) b.types (t ∷ ts))
-  crowded_alike t ts begins named unlisted room = by_kind (is_bare w t) (is_listed w t) refl refl
+  crowded_alike t ts begins named unlisted placed room = by_kind (is_bare w t) (is_listed w t) refl refl
     where
       some : is_bare w t ≡ false → is_listed w t ≡ true → is_zero k ≡ false
       some bare listed =
@@ -70,8 +70,8 @@ module _ (texts : List (List ℕ)) (k : ℕ) (part : Parts) (b : Body) where
           → Alike {A = Body} ((if c then choose (is_open w) (refuse bad_arguments) (barred w seat.Scope)
           else (if d then choose (is_open w) (refuse too_deep) (choose (λ s. true) (refuse bad_arguments) (refuse unexpected))
           else choose (is_keyword w keyword.Volatile) (refuse volatile) (choose (goes_on_type w) (refuse too_deep) (refuse unexpected)))) ts) (declaration_at texts (suc k) (parts texts (suc k)) b.types (t ∷ ts))
-      by_kind true d bare listed = behind_bare Body texts b.types k (parts texts (suc k)) t ts bare
-      by_kind false true bare listed = behind_applied Body texts b.types k (parts texts (suc k)) t ts (some bare listed) listed bare
+      by_kind true d bare listed = behind_bare Body texts b.types k (parts texts (suc k)) t ts bare placed
+      by_kind false true bare listed = behind_applied Body texts b.types k (parts texts (suc k)) t ts (some bare listed) listed placed bare
       by_kind false false bare listed = behind_type Body texts b.types k (parts texts (suc k)) t (type_named t begins named unlisted listed) ts
 
 -- ---- the same for each depth
@@ -80,7 +80,7 @@ module _ (texts : List (List ℕ)) (n m : ℕ) (le : n ≤ m) (part more : Parts
   abbrev here : Lexicon
   here = reading texts b.types
 
-  module _ (t : Token) (ts : List Token) (begins : begins_declaration here t ≡ true) (named : is_name here t ≡ true) (unlisted : is_unlisted here t ≡ false) where
+  module _ (t : Token) (ts : List Token) (begins : begins_declaration here t ≡ true) (named : is_name here t ≡ true) (unlisted : is_unlisted here t ≡ false) (placed : is_misplaced here t ≡ false) where
     two_at_least : (c : Bool) → 2 ≤ (if c then 3 else 2)
     two_at_least true = omega arith
     two_at_least false = omega arith
@@ -88,7 +88,7 @@ module _ (texts : List (List ℕ)) (n m : ℕ) (le : n ≤ m) (part more : Parts
     without_room : (m : ℕ) → nat_lt m (room_for here t) ≡ false → Held (crowded {A = Body} here t ts) (declaration_item texts m more b (t ∷ ts))
     without_room zero room = absurd (let least : room_for here t ≤ 0 = within_room 0 (room_for here t) room in let two : 2 ≤ room_for here t = two_at_least (is_listed here t && not (is_bare here t)) in omega arith)
     without_room (suc zero) room = absurd (let least : room_for here t ≤ 1 = within_room 1 (room_for here t) room in let two : 2 ≤ room_for here t = two_at_least (is_listed here t && not (is_bare here t)) in omega arith)
-    without_room (suc (suc k)) room = held_alike texts k more b t ts (crowded here t ts) (crowded_alike texts k more b t ts begins named unlisted room)
+    without_room (suc (suc k)) room = held_alike texts k more b t ts (crowded here t ts) (crowded_alike texts k more b t ts begins named unlisted placed room)
 
     abbrev by_room : (l : ℕ) → Parts → Bool → Outcome Token Body
     by_room l parts c = if c then and_then (if is_name here t then done t ts else stop unexpected (length (t ∷ ts))) (crowded here) else declaration_item texts l parts b (t ∷ ts)
@@ -104,7 +104,8 @@ module _ (texts : List (List ℕ)) (n m : ℕ) (le : n ≤ m) (part more : Parts
   named_held [] h = absurd (cc h)
   named_held (t ∷ ts) h =
       by_choice (is_unlisted here t) _ _ _ _ (λ e. same refl)
-      (λ e. by_rooms t ts (and_first (begins_declaration here t) (is_name here t) h) (and_second (begins_declaration here t) (is_name here t) h) e (nat_lt n (room_for here t)) (nat_lt m (room_for here t)) refl refl)
+      (λ e. by_choice (is_misplaced here t) _ _ _ _ (λ k. same refl)
+      (λ k. by_rooms t ts (and_first (begins_declaration here t) (is_name here t) h) (and_second (begins_declaration here t) (is_name here t) h) e k (nat_lt n (room_for here t)) (nat_lt m (room_for here t)) refl refl))
 
 module _ (texts : List (List ℕ)) where
   pub statements_wider : (n m : ℕ) → n ≤ m → WiderParts (statements texts n) (statements texts m)

@@ -1,37 +1,29 @@
 -- Where the readers of declarations in a scope stop for want of depth, those of a greater depth go on, by what is known of specifiers, declarators and initialisers.
-use Rattle.std.proofs.Common.{◌≡◌, ◌≤◌, ◌+◌, ℕ, suc, Bool, false, List, [], ◌∷◌, ◌++◌, length, nat_lt, Option, Some, None, refl, sym, ap, ◌∙◌, subst, arith, append-nil}
+use Rattle.std.proofs.Common.{◌≡◌, ◌≤◌, ◌+◌, ℕ, suc, Bool, true, false, List, [], ◌∷◌, ◌++◌, length, nat_lt, Option, Some, None, if◌then◌else◌, refl, sym, subst, arith}
 use Rattle.sb_base.specs.declared.interning.Name.{Name}
 use Rattle.sb_base.specs.declared.refusals.Place.{Place}
 use Rattle.sb_base.specs.declared.tokens.Token.{Token}
-use Rattle.sb_parse.specs.Parser.{Outcome, Parser, done, stop, and_then, ◌>>=◌, pure, token, choose, looped}
-use Rattle.sb_parse.specs.Lawful.{Part}
+use Rattle.sb_parse.specs.Parser.{Parser, ◌>>=◌, pure, refuse, token, choose, looped}
 use Rattle.sb_tree.specs.Trees as tree
 use Rattle.sb_tree.specs.Trees.{TypeTree, OptionalInit, DeclTree, NoteTree}
 use Rattle.sb_lexicon.specs.Lexicon.{Lexicon}
 use Rattle.sb_lexicon.specs.Tokens.{unexpected, too_deep, misplaced_before, is_comma}
 use Rattle.sb_lexicon.proofs.Wider.{Wider, room_wider}
-use Rattle.sb_sal.specs.declared.bearer.Bearer.{Bearer}
 use Rattle.sb_sal.specs.declared.bearer.Bearer.TheVariants as bearer
 use Rattle.sb_sal.specs.Readers.{notes_reader}
-use Rattle.sb_sal.specs.Reads.{FitsNotes}
 use Rattle.sb_sal.specs.Spellings.{may_stand}
-use Rattle.sb_sal.proofs.Annotations.{more_notes_behind, lawful_notes}
-use Rattle.sb_sal.proofs.Filled.{filled}
-use Rattle.sb_sal.proofs.Deepening.{Past, Shrinks, Deepens, shrinks_pure, shrinks_token, shrinks_then, shrinks_choose, shrinks_looped, past_bind, at_list, still_pure, still_token, in_order, in_order_where, choosing, turning, guarded, enters, open_room}
+use Rattle.sb_sal.proofs.Deepening.{Past, Shrinks, Deepens, shrinks_pure, shrinks_token, shrinks_refuse, shrinks_then, shrinks_choose, shrinks_looped, past_bind, still_pure, still_token, still_refuse, in_order, choosing, turning, guarded, enters, open_room}
 use Rattle.sb_sal.proofs.Lowered.{not_unexpected}
 use Rattle.sb_sal.proofs.NoteDeepening.{notes_deepen}
-use Rattle.sb_sal.proofs.NoteWider.{judged_alike}
 use Rattle.sb_specifier.specs.declared.seat.Seat.TheVariants as seat
-use Rattle.sb_specifier.specs.Specified.{reading, again, Specified, declares_function, bearer_of}
+use Rattle.sb_specifier.specs.Specified.{reading, again, Specified, declares_function}
 use Rattle.sb_declare.specs.Readers as reader
-use Rattle.sb_specifier.specs.Readers.{place_of_base, is_assign, is_semicolon, is_pardon, ends_nameless, Declarator, Declarations, Parts, specifiers}
+use Rattle.sb_specifier.specs.Readers.{place_of_base, is_assign, is_semicolon, is_pardon, shows_object, ends_nameless, Declarator, Declarations, Parts, specifiers}
 use Rattle.sb_parse.specs.Texts.{with_text}
 use Rattle.sb_initialiser.specs.Readers.{initialiser}
-use Rattle.sb_declare.specs.Readers.{Opening, Listing, opening, judged, declarator_in, initialised, next_declarator, rest_of_declaration, nameless, declaration_at}
+use Rattle.sb_declare.specs.Readers.{Opening, Listing, all_stand, pardoned, opening, judged, declarator_in, initialised, next_declarator, rest_of_declaration, nameless, declaration_at}
 use Rattle.sb_declarator.specs.Readers.{on}
-use Rattle.sb_parse.proofs.Texts.{WithText, text_law}
 use Rattle.sb_declarator.proofs.deepening.Members.{shrinks_text, text_deepens}
-use Rattle.sb_declare.proofs.widening.Declarations.{IsNoted}
 
 pardon_not_deep : (k : ℕ) → misplaced_before k ≡ too_deep → ⊥
 pardon_not_deep k h = let both : 3000 + k ≡ 32 = h in omega arith
@@ -61,7 +53,7 @@ module _ (texts : List (List ℕ)) (n : ℕ) (part : ℕ → ℕ → Parts)
     w = reading texts types
 
     abbrev notes_at : ℕ → Parser Token (List NoteTree)
-    notes_at k = notes_reader w k (may_stand w bearer.Any)
+    notes_at k = notes_reader w k (may_stand w bearer.Function)
 
     abbrev opened_so : List NoteTree × List Token → (Specified × TypeTree) × List Token → Opening
     opened_so notes s = record { outer = types; notes = notes.0; noted = notes.1; specified = s.0.0; base = s.0.1; count = length s.1 }
@@ -72,32 +64,12 @@ module _ (texts : List (List ℕ)) (n : ℕ) (part : ℕ → ℕ → Parts)
     pub opening_deepens : Deepens n (λ m. opening texts m (part m) types)
     unfolding opening
     opening_deepens =
-        in_order n (λ m. with_text (notes_at m)) specifiers_at (text_deepens n notes_at (notes_deepen w (may_stand w bearer.Any) n))
+        in_order n (λ m. with_text (notes_at m)) specifiers_at (text_deepens n notes_at (notes_deepen w (may_stand w bearer.Function) n))
         (λ notes. in_order n (λ m. with_text (specifiers texts seat.Scope m (part m) types)) (λ m s. pure (opened_so notes s)) (text_deepens n (λ m. specifiers texts seat.Scope m (part m) types) (Specifiers types))
         (λ s. still_pure n (opened_so notes s)))
 
-    -- the tokens of annotations that were read are those annotations, and no more
-    alone : (ts : List Token) (notes : List NoteTree × List Token) (rest : List Token) → with_text (notes_at n) ts ≡ done notes rest → notes_at n notes.1 ≡ done notes.0 []
-    alone ts notes rest e =
-        let u : Part (WithText (FitsNotes w n (may_stand w bearer.Any))) (λ v. more_notes_behind w v.0) notes ts rest = (text_law (lawful_notes w n (may_stand w bearer.Any) (filled w bearer.Any))).sound ts notes rest e in
-        ap (notes_at n) (u.is.1 ∙ sym (append-nil u.front)) ∙ (lawful_notes w n (may_stand w bearer.Any) (filled w bearer.Any)).complete u.front notes.0 [] u.is.0 refl
-
-    noted_so : (ts : List Token) (o : Opening) (rest : List Token) → opening texts n (part n) types ts ≡ done o rest → IsNoted texts n o
-    unfolding opening
-    noted_so ts o rest e = by_notes (with_text (notes_at n) ts) refl e
-      where
-        by_specifiers : (notes : List NoteTree × List Token) → notes_at n notes.1 ≡ done notes.0 [] → (x : Outcome Token ((Specified × TypeTree) × List Token)) → and_then x (λ s. pure (opened_so notes s)) ≡ done o rest → IsNoted texts n o
-        by_specifiers notes h (done s us) e = let is : opened_so notes s ≡ o = cc e in subst (IsNoted texts n) is h
-        by_specifiers notes h (stop i k) e = absurd (cc e)
-
-        by_notes : (x : Outcome Token (List NoteTree × List Token)) → with_text (notes_at n) ts ≡ x → and_then x (specifiers_at n) ≡ done o rest → IsNoted texts n o
-        by_notes (done notes us) h e = by_specifiers notes (alone ts notes us h) (with_text (specifiers texts seat.Scope n (part n) types) us) e
-        by_notes (stop i k) h e = absurd (cc e)
-
-    -- what follows is known behind openings that are read at this depth
-    pub opening_deepens_then : {A : Type 0} (q : ℕ → Opening → Parser Token A) → ((o : Opening) → IsNoted texts n o → Deepens n (λ m. q m o)) → ((m : ℕ) → n ≤ m → (o : Opening) → Shrinks (q m o))
-        → Deepens n (λ m. opening texts m (part m) types >>= q m)
-    opening_deepens_then q Q S = in_order_where n (λ m. opening texts m (part m) types) q opening_deepens (λ o ts rest e. at_list n (λ m. q m o) (Q o (noted_so ts o rest e)) rest) S
+    pub opening_deepens_then : {A : Type 0} (q : ℕ → Opening → Parser Token A) → ((o : Opening) → Deepens n (λ m. q m o)) → Deepens n (λ m. opening texts m (part m) types >>= q m)
+    opening_deepens_then q Q = in_order n (λ m. opening texts m (part m) types) q opening_deepens Q
 
   -- ---- the same at each depth
 
@@ -144,18 +116,20 @@ module _ (texts : List (List ℕ)) (n : ℕ) (part : ℕ → ℕ → Parts)
   -- ---- what follows an opening leaves no more than there was
 
   module _ (o : Opening) where
-    judged_shrinks : {A : Type 0} (m : ℕ) (at : Bearer) (count : ℕ) (a : A) → Shrinks (judged texts m (part m) o at count a)
-    judged_shrinks {A} m at count a = by_place (reader.misplaced_in texts m (part m) (notes_reader (reading texts o.outer) m (may_stand (reading texts o.outer) at) o.noted))
+    judged_shrinks : {A : Type 0} (m : ℕ) (function : Bool) (count : ℕ) (a : A) → Shrinks (judged texts m (part m) o function count a)
+    judged_shrinks {A} m function count a = by_case (all_stand function o.noted)
       where
-        by_place : (p : Option ℕ) → Shrinks (reader.judged_by texts m (part m) p count a)
-        by_place None = shrinks_pure a
-        by_place (Some left) = shrinks_then (token (misplaced_before (left + count)) is_pardon) (λ t. pure a) (shrinks_token (misplaced_before (left + count)) is_pardon) (λ t. shrinks_pure a)
+        by_case : (b : Bool) → Shrinks (if b then pure a else pardoned texts (length o.noted + count) a)
+        by_case true = shrinks_pure a
+        by_case false =
+            shrinks_choose (shows_object (reading texts [])) (refuse (misplaced_before (length o.noted + count))) (token unexpected is_pardon >>= (λ t. pure a)) (shrinks_refuse (misplaced_before (length o.noted + count)))
+            (shrinks_then (token unexpected is_pardon) (λ t. pure a) (shrinks_token unexpected is_pardon) (λ t. shrinks_pure a))
 
     abbrev here : ℕ → List Name → TypeTree → Bool → Parser Token Declarator
     here m types base functions = on texts m (part m) types functions false base
 
     abbrev judging : ℕ → ℕ → Declarator × List Token → Parser Token Declarator
-    judging m count d = judged texts m (part m) o (bearer_of (declares_function d.0.pieces)) (count + length d.1) d.0
+    judging m count d = judged texts m (part m) o (declares_function d.0.pieces) (count + length d.1) d.0
 
     -- a declarator, behind which the annotations are judged
     abbrev named_at : ℕ → List Name → TypeTree → ℕ → Bool → Parser Token Declarator
@@ -167,7 +141,7 @@ module _ (texts : List (List ℕ)) (n : ℕ) (part : ℕ → ℕ → Parts)
         let functions : Bool = reader.functions_in o.specified in
         shrinks_then (with_text (named_at m types base count functions)) (λ d. pure (d.0, count + length d.1))
         (shrinks_text (named_at m types base count functions) (shrinks_then (with_text (here m types base functions)) (judging m count) (shrinks_text (here m types base functions) ((Declarators types functions base).shrinks m le))
-        (λ d. judged_shrinks m (bearer_of (declares_function d.0.pieces)) (count + length d.1) d.0)))
+        (λ d. judged_shrinks m (declares_function d.0.pieces) (count + length d.1) d.0)))
         (λ d. shrinks_pure (d.0, count + length d.1))
 
     abbrev next_named : ℕ → Listing → Token → Parser Token Listing
@@ -210,33 +184,21 @@ module _ (texts : List (List ℕ)) (n : ℕ) (part : ℕ → ℕ → Parts)
     pub nameless_shrinks : (place : Place) (m : ℕ) → n ≤ m → Shrinks (nameless texts m (part m) o place)
     unfolding nameless
     nameless_shrinks place m le =
-        shrinks_then (judged texts m (part m) o bearer.Object o.count (reader.nameless_of texts m (part m) o place)) ending (judged_shrinks m bearer.Object o.count (reader.nameless_of texts m (part m) o place))
+        shrinks_then (judged texts m (part m) o false o.count (reader.nameless_of texts m (part m) o place)) ending (judged_shrinks m false o.count (reader.nameless_of texts m (part m) o place))
         (λ ds. (ending_deepens_so ds).shrinks m le)
 
   -- ---- what follows an opening that is read at this depth
 
-  module _ (o : Opening) (noted : IsNoted texts n o) where
-    -- the annotations are judged alike
-    pub judged_deepens : {A : Type 0} (at : Bearer) (count : ℕ) (a : A) → Deepens n (λ m. judged texts m (part m) o at count a)
-    judged_deepens {A} at count a = along n place_at (λ m p. reader.judged_by texts m (part m) p count a) alike (by_place (place_at n))
+  module _ (o : Opening) where
+    pub judged_deepens : {A : Type 0} (function : Bool) (count : ℕ) (a : A) → Deepens n (λ m. judged texts m (part m) o function count a)
+    judged_deepens {A} function count a = by_case (all_stand function o.noted)
       where
-        read_at : ℕ → Outcome Token (List NoteTree)
-        read_at m = notes_reader (reading texts o.outer) m (may_stand (reading texts o.outer) at) o.noted
-
-        place_at : ℕ → Option ℕ
-        place_at m = reader.misplaced_in texts m (part m) (read_at m)
-
-        by_outcome : (m : ℕ) (x : Outcome Token (List NoteTree)) → reader.misplaced_in texts m (part m) x ≡ reader.misplaced_in texts n (part n) x
-        by_outcome m (done ns rest) = refl
-        by_outcome m (stop i left) = refl
-
-        alike : (m : ℕ) → n ≤ m → place_at m ≡ place_at n
-        alike m le = ap (reader.misplaced_in texts m (part m)) (judged_alike (reading texts o.outer) n m le (may_stand (reading texts o.outer) at) o.noted o.notes [] noted) ∙ by_outcome m (read_at n)
-
-        by_place : (p : Option ℕ) → Deepens n (λ m. reader.judged_by texts m (part m) p count a)
-        by_place None = still_pure n a
-        by_place (Some left) =
-            in_order n (λ m. token (misplaced_before (left + count)) is_pardon) (λ m t. pure a) (still_token n (misplaced_before (left + count)) is_pardon (pardon_not_deep (left + count))) (λ t. still_pure n a)
+        by_case : (b : Bool) → Deepens n (λ m. if b then pure a else pardoned texts (length o.noted + count) a)
+        by_case true = still_pure n a
+        by_case false =
+            choosing n (shows_object (reading texts [])) (λ m. refuse (misplaced_before (length o.noted + count))) (λ m. token unexpected is_pardon >>= (λ t. pure a))
+            (still_refuse n (misplaced_before (length o.noted + count)) (pardon_not_deep (length o.noted + count)))
+            (in_order n (λ m. token unexpected is_pardon) (λ m t. pure a) (the_token is_pardon) (λ t. still_pure n a))
 
     pub declarator_in_deepens : (types : List Name) (base : TypeTree) (count : ℕ) → Deepens n (λ m. declarator_in texts m (part m) o types base count)
     unfolding declarator_in
@@ -251,7 +213,7 @@ module _ (texts : List (List ℕ)) (n : ℕ) (part : ℕ → ℕ → Parts)
         named_deepens : Deepens n (λ m. named_at o m types base count functions)
         named_deepens =
             in_order n (λ m. with_text (here o m types base functions)) (λ m. judging o m count) (text_deepens n (λ m. here o m types base functions) (Declarators types functions base))
-            (λ d. judged_deepens (bearer_of (declares_function d.0.pieces)) (count + length d.1) d.0)
+            (λ d. judged_deepens (declares_function d.0.pieces) (count + length d.1) d.0)
 
     next_deepens : (l : Listing) → Deepens n (λ m. next_declarator texts m (part m) o l)
     unfolding next_declarator
@@ -271,8 +233,8 @@ module _ (texts : List (List ℕ)) (n : ℕ) (part : ℕ → ℕ → Parts)
     pub nameless_deepens : (place : Place) → Deepens n (λ m. nameless texts m (part m) o place)
     unfolding nameless
     nameless_deepens place =
-        in_order n (λ m. judged texts m (part m) o bearer.Object o.count (reader.nameless_of texts m (part m) o place)) (λ m. ending o)
-        (judged_deepens bearer.Object o.count (reader.nameless_of texts n (part n) o place)) (ending_deepens_so o)
+        in_order n (λ m. judged texts m (part m) o false o.count (reader.nameless_of texts m (part m) o place)) (λ m. ending o)
+        (judged_deepens false o.count (reader.nameless_of texts n (part n) o place)) (ending_deepens_so o)
 
   -- ---- the whole declaration
 
@@ -289,11 +251,10 @@ module _ (texts : List (List ℕ)) (n : ℕ) (part : ℕ → ℕ → Parts)
   pub declaration_deepens : (types : List Name) → Deepens n (λ m. declaration_at texts m (part m) types)
   unfolding declaration_at
   declaration_deepens types = opening_deepens_then types (after types)
-      (λ o noted. choosing n (ends_nameless (reading texts types)) (λ m. nameless texts m (part m) o (place_of_base o.base))
+      (λ o. choosing n (ends_nameless (reading texts types)) (λ m. nameless texts m (part m) o (place_of_base o.base))
       (λ m. declarator_in texts m (part m) o o.specified.types o.base o.count >>= rest_of_declaration texts m (part m) o)
-      (nameless_deepens o noted (place_of_base o.base))
-      (in_order n (λ m. declarator_in texts m (part m) o o.specified.types o.base o.count) (λ m. rest_of_declaration texts m (part m) o) (declarator_in_deepens o noted o.specified.types o.base o.count) (rest_deepens o noted)))
-      (after_shrinks types)
+      (nameless_deepens o (place_of_base o.base))
+      (in_order n (λ m. declarator_in texts m (part m) o o.specified.types o.base o.count) (λ m. rest_of_declaration texts m (part m) o) (declarator_in_deepens o o.specified.types o.base o.count) (rest_deepens o)))
 
   -- where an opening is read past its first token, so is the declaration
   pub declaration_past : (types : List Name) (m : ℕ) → n ≤ m → (left : ℕ) (ts : List Token) → Past left (opening texts m (part m) types ts) → Past left (declaration_at texts m (part m) types ts)

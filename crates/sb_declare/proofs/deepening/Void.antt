@@ -1,5 +1,5 @@
 -- What parameters with room read behind `void` as their first token, where a parameter goes on: they get past the token behind it.
-use Rattle.std.proofs.Common.{◌≡◌, ◌≤◌, ◌-◌, ℕ, zero, suc, Bool, true, false, ◌||◌, ◌&&◌, not, List, [], ◌∷◌, ◌++◌, length, take, nat_lt, Option, Some, None, is_some, if◌then◌else◌, refl, sym, ap, ◌∙◌, subst, arith}
+use Rattle.std.proofs.Common.{◌≡◌, ◌≤◌, ◌-◌, ℕ, zero, suc, Bool, true, false, ◌||◌, ◌&&◌, List, [], ◌∷◌, ◌++◌, length, take, nat_lt, Option, Some, None, is_some, if◌then◌else◌, refl, sym, ap, ◌∙◌, subst, arith}
 use Rattle.std.specs.Option.{option_map_or}
 use Rattle.sb_base.specs.declared.interning.Name.{Name}
 use Rattle.sb_base.specs.declared.refusals.Place.{Place}
@@ -16,7 +16,7 @@ use Rattle.sb_lexicon.specs.Lexicon.{Lexicon, is_mark, is_keyword, is_type_keywo
 use Rattle.sb_operand.specs.Pieces.{points}
 use Rattle.sb_lexicon.specs.Tokens as expr
 use Rattle.sb_operand.specs.Readers.{begins_abstract}
-use Rattle.sb_lexicon.specs.Tokens.{unexpected, too_deep, too_many_parameters, is_zero, is_comma, is_star, is_open, is_open_bracket}
+use Rattle.sb_lexicon.specs.Tokens.{unexpected, too_deep, is_zero, is_comma, is_star, is_open, is_open_bracket}
 use Rattle.sb_lexicon.proofs.Depths.{room_within, some_room}
 use Rattle.sb_lexicon.proofs.Lexemes.{keyword_is, mark_is, mark_no_keyword, name_no_keyword}
 use Rattle.sb_parse.proofs.Ways.{first_fails, second_fails}
@@ -32,7 +32,7 @@ use Rattle.sb_declare.proofs.widening.Barred.{is_word, specified_by, by_specifie
 use Rattle.sb_derivation.proofs.laws.Beginnings.{mark_is_no_name}
 use Rattle.sb_declarator.proofs.deepening.Shrinks.{starred, starred_shrinks, enclosed, enclosed_shrinks, bracketed, bracketed_shrinks, suffixed_shrinks, declarators_shrink}
 use Rattle.sb_declarator.proofs.deepening.Members.{past_front}
-use Rattle.sb_declarator.proofs.deepening.Shrinking.{shrinks_loop, specified_shrinks, defined_shrinks, completed_shrinks, on_shrinks, parameter_shrinks, next_parameter_shrinks}
+use Rattle.sb_declarator.proofs.deepening.Shrinking.{shrinks_loop, specified_shrinks, defined_shrinks, completed_shrinks, on_shrinks, another_shrinks, next_parameter_shrinks}
 use Rattle.sb_declare.proofs.widening.Void.{no_declarator, voided, base, said, said_alone, none, no_text, from_type, one_parameter}
 
 either_of : {R : Type 0} (a b : Bool) → (a || b) ≡ true → (a ≡ true → R) → (a ≡ false → b ≡ true → R) → R
@@ -275,15 +275,11 @@ module _ (texts : List (List ℕ)) (types : List Name) (m : ℕ) (part : ℕ →
       continued : Declarator → Parser Token Declarations
       continued d = pure (reader.one_more (none texts m part types v ts void) (member_of texts m part [] as_type d place_of) (option_map_or (λ n. without n.0 types) d.name types))
 
-  comma_past : (ds : Declarations) → not (nat_lt (length ds.list) 32) ≡ false → is_comma here_in u ≡ true → Past left (next_parameter texts m part ds ts)
-  unfolding next_parameter another_parameter
-  comma_past ds few h =
-      subst (λ b. Past left (if b then stop too_many_parameters left else (token unexpected (is_comma here_in) >>= after) ts)) (sym few)
-      (enters unexpected (is_comma here_in) after
-      (λ t. shrinks_choose (is_mark here_in mark.Ellipsis) (refuse reader.variable_arguments) (parameter texts m part ds) (shrinks_refuse reader.variable_arguments) (parameter_shrinks texts m part Members Parameters ds)) ts h)
-    where
-      after : Token → Parser Token Declarations
-      after t = choose (is_mark (reading texts ds.types) mark.Ellipsis) (refuse reader.variable_arguments) (parameter texts m part ds)
+  comma_past : (ds : Declarations) → is_comma here_in u ≡ true → Past left (next_parameter texts m part ds ts)
+  unfolding next_parameter
+  comma_past ds h =
+      enters unexpected (is_comma here_in) (λ t. choose (is_mark (reading texts ds.types) mark.Ellipsis) (refuse reader.variable_arguments) (another_parameter texts m part ds))
+      (λ t. shrinks_choose (is_mark here_in mark.Ellipsis) (refuse reader.variable_arguments) (another_parameter texts m part ds) (shrinks_refuse reader.variable_arguments) (another_shrinks texts m part Members Parameters ds)) ts h
 
   by_comma : is_specifier_word here_in u ≡ false → begins_abstract here_in u ≡ false → is_name here_in u ≡ false → is_comma here_in u ≡ true → Read
   unfolding parameters_at loop
@@ -292,7 +288,7 @@ module _ (texts : List (List ℕ)) (types : List Name) (m : ℕ) (part : ℕ →
       let ds : Declarations = reader.one_more (none texts m part types v ts void) d.0 types in
       subst (λ o. Past left (and_then o (looped (is_comma here_in) (next_parameter texts m part)))) (sym d.1)
       (subst (λ b. Past left (if b then and_then (next_parameter texts m part ds ts) (loop (is_comma here_in) (next_parameter texts m part) (length us)) else done ds ts)) (sym comma)
-      (past_then left (next_parameter texts m part ds ts) (loop (is_comma here_in) (next_parameter texts m part) (length us)) (comma_past ds refl comma)
+      (past_then left (next_parameter texts m part ds ts) (loop (is_comma here_in) (next_parameter texts m part) (length us)) (comma_past ds comma)
       (λ es rest e. most_at (loop (is_comma here_in) (next_parameter texts m part) (length us) es)
       (shrinks_loop (is_comma here_in) (next_parameter texts m part) (next_parameter_shrinks texts m part Members Parameters) (length us) es) rest)))
 

@@ -17,7 +17,6 @@ use Rattle.sb_lexicon.specs.Lexicon.{Lexicon, is_mark, is_type_keyword}
 use Rattle.sb_lexicon.specs.Tokens.{unexpected, is_open_brace, is_star, is_open, is_open_bracket}
 use Rattle.sb_lexicon.proofs.Lexemes.{mark_is, mark_alone, mark_no_keyword}
 use Rattle.sb_parse.proofs.Ways.{closing, or_first, or_second, and_fails}
-use Rattle.sb_sal.specs.declared.bearer.Bearer.TheVariants as bearer
 use Rattle.sb_specifier.specs.Specified.{reading, declares_function, names_tag}
 use Rattle.sb_declare.specs.Declaration.{IsDeclaration, is_nameless, is_declaration, is_declared, AreDeclared, first_declared, declared_behind, no_initialiser, an_initialiser, IsJudged, may_stand_there, is_pardoned, declaration_of}
 use Rattle.sb_declare.specs.Reads.{FitsDeclaration}
@@ -85,13 +84,13 @@ module _ (texts : List (List ℕ)) (below : ℕ) (part : ℕ → Parts) (M : Mem
     nameless_value = nameless_tree texts below o (place_of_base o.base)
 
     abbrev EndText : List Token → Declarations → Type 0
-    EndText = Mapped (λ ds. ds) (Closed (is_semicolon (plain texts)) (JudgedText texts below o (noted texts below part M P some types start o f) bearer.Object nameless_value))
+    EndText = Mapped (λ ds. ds) (Closed (is_semicolon (plain texts)) (JudgedText texts false o.noted nameless_value))
 
     end_law : Lawful EndText (λ _. never) (nameless texts below part o (place_of_base o.base))
     unfolding nameless
     end_law =
         closing unexpected (is_semicolon (plain texts)) semicolon_token (semicolon_token_is (plain texts))
-        (judged_law texts below o (noted texts below part M P some types start o f) bearer.Object part o.count nameless_value) (λ ds t h. refl) (λ ds. ds)
+        (judged_law texts false o.noted o.count nameless_value) (λ ds t h. refl) (λ ds. ds)
 
     to_end : (ts : List Token) (ds : Declarations) → EndText ts ds → FitsEnd ts ds
     to_end ts ds m = record { judged = m.is.front; closing = m.is.closing; split = m.is.split; judged_is = m.is.is.0; closes = m.is.passes; same = m.same ∙ m.is.is.1 }
@@ -102,7 +101,7 @@ module _ (texts : List (List ℕ)) (below : ℕ) (part : ℕ → Parts) (M : Mem
     end_begins : (ts : List Token) (ds : Declarations) → FitsEnd ts ds → at_next ends ts ≡ true
     end_begins ts ds n = ap (at_next ends) n.split ∙ by_case n.judged n.judged_is
       where
-        by_case : (js : List Token) → IsJudged (reading texts o.outer) bearer.Object o.noted o.notes js → at_next ends (js ++ (n.closing ∷ [])) ≡ true
+        by_case : (js : List Token) → IsJudged false o.noted js → at_next ends (js ++ (n.closing ∷ [])) ≡ true
         by_case _ (may_stand_there are) = or_first (is_semicolon w n.closing) (is_pardon n.closing) n.closes
         by_case _ (is_pardoned t none h) = or_second (is_semicolon w t) (is_pardon t) h
 
@@ -112,7 +111,7 @@ module _ (texts : List (List ℕ)) (below : ℕ) (part : ℕ → Parts) (M : Mem
     pub opening_nameless : (ts : List Token) (ds : Declarations) (later : List Token) → FitsEnd ts ds → at_next (more_opening texts below o) (ts ++ later) ≡ false
     opening_nameless ts ds later n = ap (λ l. at_next (more_opening texts below o) (l ++ later)) n.split ∙ by_case n.judged n.judged_is
       where
-        by_case : (js : List Token) → IsJudged (reading texts o.outer) bearer.Object o.noted o.notes js → at_next (more_opening texts below o) ((js ++ (n.closing ∷ [])) ++ later) ≡ false
+        by_case : (js : List Token) → IsJudged false o.noted js → at_next (more_opening texts below o) ((js ++ (n.closing ∷ [])) ++ later) ≡ false
         by_case _ (may_stand_there are) = semicolon_no_word texts n.closing n.closes o.base
         by_case _ (is_pardoned t none h) = pardon_no_word texts t h o.base
 
@@ -189,11 +188,11 @@ module _ (texts : List (List ℕ)) (below : ℕ) (part : ℕ → Parts) (M : Mem
 
   -- the declarators with what stands behind them
   declarators_are : (o : Opening) (count : ℕ) (xs : List Token) (v : Declarator × ℕ) (g : FitsFirst texts below o o.specified.types o.base count xs v) (ts : List Token) (ds : Declarations) → IsRest texts below o v.0 ts ds
-      → AreDeclared texts o.outer o.noted o.notes o.specified o.base (g.front ++ (g.judged ++ ts)) ds
+      → AreDeclared texts o.noted o.notes o.specified o.base (g.front ++ (g.judged ++ ts)) ds
   declarators_are o count xs v g _ _ (an_end ts init is) = first_declared (g.front ++ (g.judged ++ ts)) _ _ (is_declared o.specified.types g.front g.judged ts v.0 init g.is.is g.judged_is is)
   declarators_are o count xs v g _ _ (another us ys c ds e now comma is declares) =
       let text : (g.front ++ (g.judged ++ us)) ++ (c ∷ ys) ≡ g.front ++ (g.judged ++ (us ++ (c ∷ ys))) = append_assoc g.front (g.judged ++ us) (c ∷ ys) ∙ ap (λ l. g.front ++ l) (append_assoc g.judged us (c ∷ ys)) in
-      subst (λ l. AreDeclared texts o.outer o.noted o.notes o.specified o.base l (record { list = ds.list ++ (e ∷ []); types = now })) text
+      subst (λ l. AreDeclared texts o.noted o.notes o.specified o.base l (record { list = ds.list ++ (e ∷ []); types = now })) text
       (declared_behind (g.front ++ (g.judged ++ us)) ys c ds e now comma (declarators_are o count xs v g us ds is) declares)
 
   record Cut (o : Opening) (ts : List Token) (ds : Declarations) : Type 0 where
@@ -208,7 +207,7 @@ module _ (texts : List (List ℕ)) (below : ℕ) (part : ℕ → Parts) (M : Mem
     notes_deep : depth_of_notes (note_list o.notes) ≤ below
     base_deep : depth_of_type o.base ≤ below
 
-  cut : (o : Opening) (ts : List Token) (ds : Declarations) → AreDeclared texts o.outer o.noted o.notes o.specified o.base ts ds → depth_of_decls (decl_list ds.list) ≤ suc below → Cut o ts ds × FitsParts o
+  cut : (o : Opening) (ts : List Token) (ds : Declarations) → AreDeclared texts o.noted o.notes o.specified o.base ts ds → depth_of_decls (decl_list ds.list) ≤ suc below → Cut o ts ds × FitsParts o
   cut o _ _ (first_declared _ _ _ (is_declared _ xs js ys d init is judged inits)) deep =
       let fits = fits_declared below o.notes o.specified o.base d init (deep_one (declaration_of o.notes o.specified o.base d init tree.NoStmt) (suc below) deep) in
       let room = fits_typed below o.base d.pieces fits.1 in (
@@ -254,7 +253,7 @@ module _ (texts : List (List ℕ)) (below : ℕ) (part : ℕ → Parts) (M : Mem
       by_case (inl n) =
           let text : f.noted ++ (f.specified ++ (n.judged ++ (n.closing ∷ []))) ≡ ts = sym (j.split ∙ ap (λ l. l ++ j.after) f.split ∙ append_assoc f.noted f.specified j.after ∙ ap (λ l. f.noted ++ (f.specified ++ l)) n.split) in
           let whole : nameless_tree texts below j.value (place_of_base j.value.base) ≡ ds = sym n.same in
-          let judged_is : IsJudged (reading texts types) bearer.Object f.noted j.value.notes n.judged = subst₂ (λ a b. IsJudged (reading texts a) bearer.Object b j.value.notes n.judged) f.outer_is f.noted_is n.judged_is in
+          let judged_is : IsJudged false f.noted n.judged = subst (λ l. IsJudged false l n.judged) f.noted_is n.judged_is in
           let deep : depth_of_decls (decl_list (nameless_tree texts below j.value (place_of_base j.value.base)).list) ≤ suc below =
           one_deep (declaration_of j.value.notes j.value.specified j.value.base (nothing_named j.value) tree.NoInit tree.NoStmt) (suc below)
           (declared_fits below j.value.notes j.value.specified j.value.base (nothing_named j.value) tree.NoInit f.notes_deep f.base_deep (let none : 0 ≤ below = omega arith in none)) in
@@ -264,8 +263,8 @@ module _ (texts : List (List ℕ)) (below : ℕ) (part : ℕ → Parts) (M : Mem
           let g = k.first in
           let r = k.second in
           let are = declarators_are j.value j.value.count k.before k.value g r.front ds r.is in
-          let moved : AreDeclared texts types f.noted j.value.notes j.value.specified j.value.base (g.front ++ (g.judged ++ r.front)) ds =
-          subst₂ (λ a b. AreDeclared texts a b j.value.notes j.value.specified j.value.base (g.front ++ (g.judged ++ r.front)) ds) f.outer_is f.noted_is are in
+          let moved : AreDeclared texts f.noted j.value.notes j.value.specified j.value.base (g.front ++ (g.judged ++ r.front)) ds =
+          subst (λ l. AreDeclared texts l j.value.notes j.value.specified j.value.base (g.front ++ (g.judged ++ r.front)) ds) f.noted_is are in
           let inner : (g.front ++ (g.judged ++ r.front)) ++ (r.closing ∷ []) ≡ j.after =
           append_assoc g.front (g.judged ++ r.front) (r.closing ∷ []) ∙ ap (λ l. g.front ++ l) (append_assoc g.judged r.front (r.closing ∷ []))
           ∙ sym (k.split ∙ ap (λ l. l ++ k.after) g.split ∙ append_assoc g.front g.judged k.after ∙ ap (λ l. g.front ++ (g.judged ++ l)) r.split) in

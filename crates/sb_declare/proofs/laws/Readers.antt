@@ -42,12 +42,12 @@ module _ (texts : List (List ℕ)) where
       let deep : depth_of_type (typed base d.pieces) ≤ depth_of_decl (declaration_of notes s base d init tree.NoStmt) - 1 = fits.1 in
       omega arith
 
-  list_depth : (outer : List Name) (noted : List Token) (notes : List NoteTree) (s : Specified) (base : TypeTree) (ts : List Token) (ds : Declarations) → AreDeclared texts outer noted notes s base ts ds → 2 ≤ depth_of_decls (decl_list ds.list)
-  list_depth outer noted notes s base _ _ (first_declared _ _ _ (is_declared types xs js ys d init is judged inits)) =
+  list_depth : (noted : List Token) (notes : List NoteTree) (s : Specified) (base : TypeTree) (ts : List Token) (ds : Declarations) → AreDeclared texts noted notes s base ts ds → 2 ≤ depth_of_decls (decl_list ds.list)
+  list_depth noted notes s base _ _ (first_declared _ _ _ (is_declared types xs js ys d init is judged inits)) =
       let deep = tree_depth notes s base d init in
       let last : depth_of_decl (declaration_of notes s base d init tree.NoStmt) ≤ depth_of_decls (decl_list (declaration_of notes s base d init tree.NoStmt ∷ [])) = last_depth [] (declaration_of notes s base d init tree.NoStmt) in
       omega arith
-  list_depth outer noted notes s base _ _ (declared_behind _ _ c ds _ _ comma are (is_declared types xs js ys d init is judged inits)) =
+  list_depth noted notes s base _ _ (declared_behind _ _ c ds _ _ comma are (is_declared types xs js ys d init is judged inits)) =
       let deep = tree_depth notes s (again base) d init in
       let last : depth_of_decl (declaration_of notes s (again base) d init tree.NoStmt) ≤ depth_of_decls (decl_list (ds.list ++ (declaration_of notes s (again base) d init tree.NoStmt ∷ []))) = last_depth ds.list (declaration_of notes s (again base) d init tree.NoStmt) in
       omega arith
@@ -60,7 +60,7 @@ module _ (texts : List (List ℕ)) where
       ≤ depth_of_decls (decl_list (declaration_of notes s base (record { pieces = []; name = None; inner = types }) tree.NoInit tree.NoStmt ∷ [])) =
       last_depth [] (declaration_of notes s base (record { pieces = []; name = None; inner = types }) tree.NoInit tree.NoStmt) in
       omega arith
-  declaration_depth types _ _ (is_declaration _ xs ys zs c notes s base ds begins are closes) = list_depth types xs notes s base zs ds are
+  declaration_depth types _ _ (is_declaration _ xs ys zs c notes s base ds begins are closes) = list_depth xs notes s base zs ds are
 
   pub none_declared : (left : ℕ) (types : List Name) → left < 2 → (ts : List Token) (ds : Declarations) → FitsDeclaration texts left types ts ds → ⊥
   none_declared left types few ts ds f = let least : 2 ≤ depth_of_decls (decl_list ds.list) = declaration_depth types ts ds f.0 in let most : depth_of_decls (decl_list ds.list) ≤ left = f.1 in absurd (omega arith)

@@ -189,7 +189,7 @@ module _ (texts : List (List ℕ)) (below : ℕ) (part : ℕ → Parts) (M : Mem
       same : finished listed ≡ record { list = l.list ++ (d ∷ []); types = now }
 
     next_turn : (l : Listing) → is_none texts below o l.list ≡ false → (c : Token) → is_comma (plain texts) c ≡ true → (ys : List Token) (d : DeclTree) (now : List Name)
-        → IsDeclared texts o.outer o.noted o.notes o.specified (again o.base) l.types ys d now → depth_of_decl d ≤ suc below → NextTurn l (c ∷ ys) d now
+        → IsDeclared texts o.noted o.notes o.specified (again o.base) l.types ys d now → depth_of_decl d ≤ suc below → NextTurn l (c ∷ ys) d now
     next_turn l open_way c comma _ _ _ (is_declared _ xs js ys d init is judged inits) deep =
         let fits = fits_declared below o.notes o.specified (again o.base) d init deep in
         let room = fits_typed below (again o.base) d.pieces fits.1 in
@@ -250,7 +250,7 @@ module _ (texts : List (List ℕ)) (below : ℕ) (part : ℕ → Parts) (M : Mem
         let l = x.listed in
         let j = x.joined in
         let at : ds.types ≡ l.types = sym (ap (λ z. z.types) x.same) in
-        let n = next_turn l (found_some xs l j) c comma ys d now (subst (λ z. IsDeclared texts o.outer o.noted o.notes o.specified (again o.base) z ys d now) at declares) (deep_one d (suc below) both.1) in
+        let n = next_turn l (found_some xs l j) c comma ys d now (subst (λ z. IsDeclared texts o.noted o.notes o.specified (again o.base) z ys d now) at declares) (deep_one d (suc below) both.1) in
         record {
           listed = n.listed;
           joined = record {

@@ -23,11 +23,11 @@ use Rattle.sb_sal.specs.Spellings.{may_stand}
 use Rattle.sb_sal.proofs.Annotations.{more_notes_behind, lawful_notes}
 use Rattle.sb_sal.proofs.Filled.{filled}
 use Rattle.sb_specifier.specs.declared.seat.Seat.TheVariants as seat
-use Rattle.sb_specifier.specs.Specified.{reading, Specified, declares_function, bearer_of}
+use Rattle.sb_specifier.specs.Specified.{reading, Specified, declares_function}
 use Rattle.sb_declare.specs.Declaration.{IsInitialised, no_initialiser, an_initialiser, IsJudged, may_stand_there, is_pardoned}
 use Rattle.sb_declare.specs.Readers as reader
 use Rattle.sb_specifier.specs.Readers.{Declarator, Parts, is_assign, is_pardon, specifiers}
-use Rattle.sb_declare.specs.Readers.{Opening, Listing, opening, judged, declarator_in, initialised, behind, functions_in}
+use Rattle.sb_declare.specs.Readers.{Opening, Listing, all_stand, opening, judged, declarator_in, initialised, behind, functions_in}
 use Rattle.sb_parse.specs.Texts.{with_text}
 use Rattle.sb_declarator.specs.Readers.{declarators}
 use Rattle.sb_specifier.proofs.laws.More.{is_suffix, more_pieces, more_declarator, FitsDeclarator, MembersLaws, ParametersLaws}
@@ -36,10 +36,10 @@ use Rattle.sb_declare.proofs.laws.Initialised.{more_initialised, FitsInitialised
 use Rattle.sb_derivation.proofs.laws.Beginnings.{is_nothing_by, begins_any, some_begins}
 use Rattle.sb_declarator.proofs.laws.Declarators.{declarators_law}
 use Rattle.sb_derivation.proofs.laws.Heads.{begins_specifier, specifiers_begin}
-use Rattle.sb_declare.proofs.laws.Judging.{pardon_no_mark, fitting, misfitting, JudgedText, judged_law}
+use Rattle.sb_declare.proofs.laws.Judging.{pardon_no_mark, JudgedText, judged_law}
 use Rattle.sb_declare.proofs.laws.Listed.{function_of, base_no_function, more_behind, more_listed, is_none, listed_later}
 use Rattle.sb_declarator.proofs.laws.Parameter.{after_notes}
-use Rattle.sb_declare.proofs.laws.Scoping.{FitsOpening, more_opening, misfits, FitsFirst, more_first, more_in}
+use Rattle.sb_declare.proofs.laws.Scoping.{FitsOpening, more_opening, FitsFirst, more_first, more_in}
 use Rattle.sb_specifier.proofs.laws.Specifiers.{FitsSpecifiers, specifiers_law}
 use Rattle.sb_declarator.proofs.laws.Typed.{is_base, specified_base, has_its_name}
 
@@ -56,11 +56,11 @@ module _ (texts : List (List ℕ)) where
   pardon_no_suffix t h = ap (λ b. b || is_open plain t) (pardon_no_mark plain mark.OpenBracket t h) ∙ pardon_no_mark plain mark.OpenParenthesis t h
 
   pub no_first : (below : ℕ) (o : Opening) (function : Bool) (t : Token) → is_suffix plain t ≡ false → more_first texts below o function t ≡ false
-  no_first below o function t h = by_test (misfits texts below o (bearer_of function))
+  no_first below o function t h = by_test (all_stand function o.noted)
     where
-      by_test : (b : Bool) → (if b then false else is_suffix plain t) ≡ false
-      by_test true = refl
-      by_test false = h
+      by_test : (b : Bool) → (if b then is_suffix plain t else false) ≡ false
+      by_test true = h
+      by_test false = refl
 
 module _ (texts : List (List ℕ)) (below : ℕ) (part : ℕ → Parts) (M : MembersLaws texts below part) (P : ParametersLaws texts below part) (some : 1 ≤ below) where
   -- ---- annotations and specifiers
@@ -70,7 +70,7 @@ module _ (texts : List (List ℕ)) (below : ℕ) (part : ℕ → Parts) (M : Mem
     w = reading texts types
 
     abbrev Notes : List Token → List NoteTree × List Token → Type 0
-    Notes = WithText (FitsNotes w below (may_stand w bearer.Any))
+    Notes = WithText (FitsNotes w below (may_stand w bearer.Function))
 
     abbrev opened_so : List NoteTree × List Token → (Specified × TypeTree) × List Token → Opening
     opened_so notes s = record { outer = types; notes = notes.0; noted = notes.1; specified = s.0.0; base = s.0.1; count = length s.1 }
@@ -126,14 +126,14 @@ module _ (texts : List (List ℕ)) (below : ℕ) (part : ℕ → Parts) (M : Mem
     pub opening_law : Lawful (FitsOpening texts below types) (more_opening texts below) (opening texts below part types)
     unfolding opening
     opening_law =
-        via (in_order {Second = SpecifiersText} {q = specifiers_reader} (text_law (lawful_notes w below (may_stand w bearer.Any) (filled w bearer.Any))) (λ xs notes is. behind_notes notes)
+        via (in_order {Second = SpecifiersText} {q = specifiers_reader} (text_law (lawful_notes w below (may_stand w bearer.Function) (filled w bearer.Function))) (λ xs notes is. behind_notes notes)
         (λ xs notes ys o later first second h. notes_apart notes ys o later second)) to_opening from_opening (opening texts below part types) (λ ts. refl)
 
   -- ---- what follows an opening
 
   module _ (types : List Name) (start : List Token) (o : Opening) (f : FitsOpening texts below types start o) where
-    pub noted : FitsNotes (reading texts o.outer) below (may_stand (reading texts o.outer) bearer.Any) o.noted o.notes
-    noted = (subst₂ (λ n l. AreNotes (reading texts n) (may_stand (reading texts n) bearer.Any) l o.notes) (sym f.outer_is) (sym f.noted_is) f.begins.are_notes, f.notes_deep)
+    pub noted : FitsNotes (reading texts o.outer) below (may_stand (reading texts o.outer) bearer.Function) o.noted o.notes
+    noted = (subst₂ (λ n l. AreNotes (reading texts n) (may_stand (reading texts n) bearer.Function) l o.notes) (sym f.outer_is) (sym f.noted_is) f.begins.are_notes, f.notes_deep)
 
     pub base_is : is_base o.base ≡ true
     base_is = specified_base texts seat.Scope types f.specified o.specified o.base f.begins.are_specifiers f.begins.names
@@ -148,10 +148,10 @@ module _ (texts : List (List ℕ)) (below : ℕ) (part : ℕ → Parts) (M : Mem
       Fits = FitsDeclarator texts now (functions_in o.specified) false below (below - depth_of_type base)
 
       abbrev Judgement : Declarator × List Token → List Token → Declarator → Type 0
-      Judgement v = JudgedText texts below o noted (bearer_of (declares_function v.0.pieces)) v.0
+      Judgement v = JudgedText texts (declares_function v.0.pieces) o.noted v.0
 
       abbrev judging : Declarator × List Token → Parser Token Declarator
-      judging v = judged texts below part o (bearer_of (declares_function v.0.pieces)) (count + length v.1) v.0
+      judging v = judged texts below part o (declares_function v.0.pieces) (count + length v.1) v.0
 
       abbrev more_of : Declarator → Token → Bool
       more_of d = more_first texts below o (declares_function d.pieces)
@@ -164,13 +164,11 @@ module _ (texts : List (List ℕ)) (below : ℕ) (part : ℕ → Parts) (M : Mem
           let flat : 1 ≤ depth_of_type base = some_type_depth base in
           goes_on_where (declarators_law texts now (functions_in o.specified) false (and_fails (functions_in o.specified) false refl) below part (λ h. P) (below - depth_of_type base) (omega arith)) (λ d. is_suffix (plain texts)) named_more
 
-      stands_more : (v : Declarator × List Token) → AreNotes (reading texts o.outer) (may_stand (reading texts o.outer) (bearer_of (declares_function v.0.pieces))) o.noted o.notes → (d : Declarator) → d ≡ v.0
-          → (t : Token) → more_of d t ≡ is_suffix (plain texts) t
-      stands_more v are d same t = ap (λ z. more_of z t) same ∙ ap (λ b. if b then false else is_suffix (plain texts) t) (fitting texts below o noted (bearer_of (declares_function v.0.pieces)) are)
+      stands_more : (v : Declarator × List Token) → all_stand (declares_function v.0.pieces) o.noted ≡ true → (d : Declarator) → d ≡ v.0 → (t : Token) → more_of d t ≡ is_suffix (plain texts) t
+      stands_more v are d same t = ap (λ z. more_of z t) same ∙ ap (λ b. if b then is_suffix (plain texts) t else false) are
 
-      falls_more : (v : Declarator × List Token) → (AreNotes (reading texts o.outer) (may_stand (reading texts o.outer) (bearer_of (declares_function v.0.pieces))) o.noted o.notes → ⊥) → (d : Declarator) → d ≡ v.0
-          → (t : Token) → more_of d t ≡ false
-      falls_more v none d same t = ap (λ z. more_of z t) same ∙ ap (λ b. if b then false else is_suffix (plain texts) t) (misfitting texts below o noted (bearer_of (declares_function v.0.pieces)) none)
+      falls_more : (v : Declarator × List Token) → all_stand (declares_function v.0.pieces) o.noted ≡ false → (d : Declarator) → d ≡ v.0 → (t : Token) → more_of d t ≡ false
+      falls_more v none d same t = ap (λ z. more_of z t) same ∙ ap (λ b. if b then is_suffix (plain texts) t else false) none
 
       next_as : (test other : Token → Bool) → ((t : Token) → test t ≡ other t) → (ts : List Token) → at_next test ts ≡ at_next other ts
       next_as test other each [] = refl
@@ -182,15 +180,15 @@ module _ (texts : List (List ℕ)) (below : ℕ) (part : ℕ → Parts) (M : Mem
 
       judging_follows : (v : Declarator × List Token) → Follows (is_suffix (plain texts)) (Judgement v) more_of (judging v)
       judging_follows v =
-          following_where (judged_law texts below o noted (bearer_of (declares_function v.0.pieces)) part (count + length v.1) v.0) (is_suffix (plain texts)) more_of (λ ts d is t h. refl)
+          following_where (judged_law texts (declares_function v.0.pieces) o.noted (count + length v.1) v.0) (is_suffix (plain texts)) more_of (λ ts d is t h. refl)
           (λ ts d later is off h. enough ts d later is.0 is.1 off)
         where
-          enough : (ts : List Token) (d : Declarator) (later : List Token) → IsJudged (reading texts o.outer) (bearer_of (declares_function v.0.pieces)) o.noted o.notes ts → d ≡ v.0
+          enough : (ts : List Token) (d : Declarator) (later : List Token) → IsJudged (declares_function v.0.pieces) o.noted ts → d ≡ v.0
               → at_next (is_suffix (plain texts)) (ts ++ later) ≡ false → at_next (more_of d) later ≡ false
           enough _ d later (may_stand_there are) same off = next_as (more_of d) (is_suffix (plain texts)) (stands_more v are d same) later ∙ off
           enough _ d later (is_pardoned t none h) same off = next_off (more_of d) (falls_more v none d same) later
 
-      judgement_apart : (v : Declarator × List Token) (ys : List Token) (d : Declarator) (later : List Token) → IsJudged (reading texts o.outer) (bearer_of (declares_function v.0.pieces)) o.noted o.notes ys → d ≡ v.0
+      judgement_apart : (v : Declarator × List Token) (ys : List Token) (d : Declarator) (later : List Token) → IsJudged (declares_function v.0.pieces) o.noted ys → d ≡ v.0
           → at_next (more_of d) later ≡ false → at_next (is_suffix (plain texts)) (ys ++ later) ≡ false
       judgement_apart v _ d later (may_stand_there are) same h = sym (next_as (more_of d) (is_suffix (plain texts)) (stands_more v are d same) later) ∙ h
       judgement_apart v _ d later (is_pardoned t none k) same h = pardon_no_suffix texts t k
@@ -205,8 +203,8 @@ module _ (texts : List (List ℕ)) (below : ℕ) (part : ℕ → Parts) (M : Mem
       to_first ts u m =
           let j = m.is.0 in
           let is : FitsDeclarator texts now (functions_in o.specified) false below (below - depth_of_type base) j.before m.value.0 = subst (Fits j.before) (sym j.second.1) j.first.0 in
-          let judged_is : IsJudged (reading texts o.outer) (bearer_of (declares_function m.value.0.pieces)) o.noted o.notes j.after =
-          subst (λ d. IsJudged (reading texts o.outer) (bearer_of (declares_function d.pieces)) o.noted o.notes j.after) (sym j.second.1) j.second.0 in
+          let judged_is : IsJudged (declares_function m.value.0.pieces) o.noted j.after =
+          subst (λ d. IsJudged (declares_function d.pieces) o.noted j.after) (sym j.second.1) j.second.0 in
           subst (FitsFirst texts below o now base count ts) (sym m.same) (record { front = j.before; judged = j.after; split = j.split; is = is; judged_is = judged_is; count_is = ap (λ l. count + length l) m.is.1 })
 
       from_first : (ts : List Token) (u : Declarator × ℕ) → FitsFirst texts below o now base count ts u → Mapped counted (WithText (Joined (WithText Fits) Judgement)) ts u

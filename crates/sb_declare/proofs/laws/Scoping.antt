@@ -1,5 +1,5 @@
 -- The parts of a declaration in a scope, and which tokens go on from each: annotations with specifiers, a declarator with what pardons the annotations, and the rest.
-use Rattle.std.specs.Prelude.{◌≡◌, ℕ, suc, ◌≤◌, ◌+◌, ◌-◌, Bool, true, false, List, [], ◌∷◌, ◌++◌, length, is_some, if◌then◌else◌}
+use Rattle.std.specs.Prelude.{◌≡◌, ℕ, suc, ◌≤◌, ◌+◌, ◌-◌, Bool, true, false, List, [], ◌∷◌, ◌++◌, length, if◌then◌else◌}
 use Rattle.sb_base.specs.declared.interning.Name.{Name}
 use Rattle.sb_base.specs.declared.refusals.Place.{Place}
 use Rattle.sb_base.specs.declared.tokens.Token.{Token}
@@ -8,16 +8,12 @@ use Rattle.sb_tree.specs.Plain.{decl_list, note_list}
 use Rattle.sb_tree.specs.Trees as tree
 use Rattle.sb_tree.specs.Trees.{TypeTree, OptionalInit, DeclTree, depth_of_notes, depth_of_type, depth_of_decls}
 use Rattle.sb_lexicon.specs.Lexicon.{Lexicon, is_mark}
-use Rattle.sb_sal.specs.declared.bearer.Bearer.{Bearer}
-use Rattle.sb_sal.specs.declared.bearer.Bearer.TheVariants as bearer
-use Rattle.sb_sal.specs.Readers.{notes_reader}
-use Rattle.sb_sal.specs.Spellings.{may_stand}
-use Rattle.sb_specifier.specs.Specified.{reading, again, declares_function, bearer_of}
+use Rattle.sb_specifier.specs.Specified.{reading, again, declares_function}
 use Rattle.sb_declare.specs.Declaration.{IsDeclared, IsInitialised, IsJudged, Begins, declared_by, declaration_of}
 use Rattle.sb_declare.specs.Readers as reader
 use Rattle.sb_declarator.specs.Readers.{no_parts}
 use Rattle.sb_specifier.specs.Readers.{Declarator, Declarations}
-use Rattle.sb_declare.specs.Readers.{Opening, functions_in}
+use Rattle.sb_declare.specs.Readers.{Opening, all_stand, functions_in}
 use Rattle.sb_specifier.proofs.laws.More.{is_suffix, more_specified, FitsDeclarator}
 
 module _ (texts : List (List ℕ)) (below : ℕ) where
@@ -42,21 +38,17 @@ module _ (texts : List (List ℕ)) (below : ℕ) where
 
   -- ---- a declarator, with what pardons the annotations that may not stand on it
 
-  -- some annotation may not stand on this bearer
-  abbrev pub misfits : Opening → Bearer → Bool
-  misfits o bearer = is_some (reader.misplaced_in texts below (λ k. no_parts texts) (notes_reader (reading texts o.outer) below (may_stand (reading texts o.outer) bearer) o.noted))
-
   pub record FitsFirst (o : Opening) (types : List Name) (base : TypeTree) (count : ℕ) (ts : List Token) (v : Declarator × ℕ) : Type 0 where
     pub front : List Token
     pub judged : List Token
     pub split : ts ≡ front ++ judged
     pub is : FitsDeclarator texts types (functions_in o.specified) false below (below - depth_of_type base) front v.0
-    pub judged_is : IsJudged (reading texts o.outer) (bearer_of (declares_function v.0.pieces)) o.noted o.notes judged
+    pub judged_is : IsJudged (declares_function v.0.pieces) o.noted judged
     pub count_is : v.1 ≡ count + length ts
 
   -- behind what pardons them nothing goes on
   abbrev pub more_first : Opening → Bool → Token → Bool
-  more_first o function t = if misfits o (bearer_of function) then false else is_suffix plain t
+  more_first o function t = if all_stand function o.noted then is_suffix plain t else false
 
   abbrev pub more_in : Opening → Declarator × ℕ → Token → Bool
   more_in o v = more_first o (declares_function v.0.pieces)
@@ -67,7 +59,7 @@ module _ (texts : List (List ℕ)) (below : ℕ) where
     an_end : (ts : List Token) (init : OptionalInit) → IsInitialised (reading texts (declared_by o.specified d.name o.specified.types)) ts init
         → IsRest o d ts (record { list = declaration_of o.notes o.specified o.base d init tree.NoStmt ∷ []; types = declared_by o.specified d.name o.specified.types })
     another : (xs ys : List Token) (c : Token) (ds : Declarations) (e : DeclTree) (now : List Name) → is_mark (reading texts ds.types) mark.Comma c ≡ true → IsRest o d xs ds
-        → IsDeclared texts o.outer o.noted o.notes o.specified (again o.base) ds.types ys e now → IsRest o d (xs ++ (c ∷ ys)) (record { list = ds.list ++ (e ∷ []); types = now })
+        → IsDeclared texts o.noted o.notes o.specified (again o.base) ds.types ys e now → IsRest o d (xs ++ (c ∷ ys)) (record { list = ds.list ++ (e ∷ []); types = now })
 
   pub record FitsRest (o : Opening) (d : Declarator) (ts : List Token) (ds : Declarations) : Type 0 where
     pub front : List Token
@@ -86,6 +78,6 @@ module _ (texts : List (List ℕ)) (below : ℕ) where
     pub judged : List Token
     pub closing : Token
     pub split : ts ≡ judged ++ (closing ∷ [])
-    pub judged_is : IsJudged (reading texts o.outer) bearer.Object o.noted o.notes judged
+    pub judged_is : IsJudged false o.noted judged
     pub closes : is_mark (reading texts o.specified.types) mark.Semicolon closing ≡ true
     pub same : ds ≡ nameless_tree o place

@@ -1,5 +1,5 @@
 -- The readers of a declaration by what its declarators share.
-use Rattle.std.proofs.Common.{◌≡◌, ◌+◌, ◌-◌, ℕ, zero, suc, Bool, false, not, List, [], length, take, Option, None, Some, if◌then◌else◌, refl, ap, sym, ◌∙◌, subst}
+use Rattle.std.proofs.Common.{◌≡◌, ◌+◌, ◌-◌, ℕ, zero, suc, Bool, true, false, not, List, [], length, take, Option, None, Some, if◌then◌else◌, refl, ap, sym, ◌∙◌, subst}
 use Rattle.sb_base.specs.declared.interning.Name.{Name}
 use Rattle.sb_base.specs.declared.refusals.Place.{Place}
 use Rattle.sb_base.specs.declared.tokens.Token.{Token}
@@ -14,16 +14,15 @@ use Rattle.sb_lexicon.specs.Lexicon.{is_mark}
 use Rattle.sb_lexicon.specs.Meaning.{stop_number, IsFault}
 use Rattle.sb_lexicon.specs.Tokens.{unexpected, misplaced_before, is_comma}
 use Rattle.sb_sign.specs.declared.sign.Mark.TheVariants as mark
-use Rattle.sb_sal.specs.declared.bearer.Bearer.TheVariants as bearer
 use Rattle.sb_declare.specs.declared.sharing.Shared.{Shared}
 use Rattle.sb_specifier.specs.Meaning.{plain_later, type_in}
 use Rattle.sb_declare.specs.Openings as part
-use Rattle.sb_specifier.specs.Readers.{place_of_base, is_pardon, Declarator, Declarations, Parts}
+use Rattle.sb_specifier.specs.Readers.{place_of_base, is_pardon, shows_object, Declarator, Declarations, Parts}
 use Rattle.sb_declare.specs.Readers as reader
 use Rattle.sb_declarator.specs.Readers.{declarators, parts}
-use Rattle.sb_declare.specs.Readers.{Opening, Listing}
+use Rattle.sb_declare.specs.Readers.{Opening, Listing, all_stand, pardoned}
 use Rattle.sb_parse.specs.Texts.{with_front}
-use Rattle.sb_specifier.specs.Specified.{reading, storage_of, again, bearer_of, declares_function}
+use Rattle.sb_specifier.specs.Specified.{reading, storage_of, again, declares_function}
 use Rattle.sb_lexicon.proofs.Loops.{fault_first}
 
 -- ---- readers in turn
@@ -45,15 +44,26 @@ abbrev stopped : {A B : Type 0} → Outcome Token A → Outcome Token B
 stopped (done a rest) = stop 0 0
 stopped (stop n left) = stop n left
 
-pub pardoned_faults : {A : Type 0} (texts : List (List ℕ)) (below : ℕ) (inner : ℕ → Parts) (m : Option ℕ) (count : ℕ) (a : A) (ts : List Token) (e : ReadFault)
-    → IsFault (part.pardoned m count ts) e → IsFault (reader.judged_by texts below inner m count a ts) e
-pardoned_faults texts below inner m count a ts Memory stops = stops
-pardoned_faults texts below inner None count a ts (Refused reason k) stops = absurd (cc stops)
-pardoned_faults texts below inner (Some left) count a ts (Refused reason k) stops = by_token (token (misplaced_before (left + count)) is_pardon ts) stops
+abbrev shown_or : {C : Type 0} → ℕ → List Token → C → Bool → Outcome Token C
+shown_or before ts c z = if z then stop (misplaced_before before) (length ts) else and_then (token unexpected is_pardon ts) (λ t. pure c)
+
+-- the value that stands there does not change how annotations are judged
+pub judged_faults : {A B : Type 0} (texts : List (List ℕ)) (function : Bool) (noted : List Token) (count : ℕ) (a : A) (b : B) (ts : List Token) (e : ReadFault)
+    → IsFault (reader.judged_by texts function noted count a ts) e → IsFault (reader.judged_by texts function noted count b ts) e
+judged_faults texts function noted count a b ts Memory stops = stops
+judged_faults {A} {B} texts function noted count a b ts (Refused reason k) stops = by_stand (all_stand function noted) stops
   where
-    by_token : (o : Outcome Token Token) → and_then o (λ t. pure (Some t)) ≡ stop (stop_number reason) k → and_then o (λ t. pure a) ≡ stop (stop_number reason) k
+    by_token : (o : Outcome Token Token) → and_then o (λ t. pure a) ≡ stop (stop_number reason) k → and_then o (λ t. pure b) ≡ stop (stop_number reason) k
     by_token (done t mid) e = absurd (cc e)
     by_token (stop n l) e = ap stopped e
+
+    by_shown : (z : Bool) → shown_or (length noted + count) ts a z ≡ stop (stop_number reason) k → shown_or (length noted + count) ts b z ≡ stop (stop_number reason) k
+    by_shown true e = ap stopped e
+    by_shown false e = by_token (token unexpected is_pardon ts) e
+
+    by_stand : (z : Bool) → (if z then pure a else pardoned texts (length noted + count) a) ts ≡ stop (stop_number reason) k → (if z then pure b else pardoned texts (length noted + count) b) ts ≡ stop (stop_number reason) k
+    by_stand true e = absurd (cc e)
+    by_stand false e = by_shown (at_next (shows_object (reading texts [])) ts) e
 
 -- ---- a value that what is read last does not change
 
@@ -80,7 +90,7 @@ declared_by_is texts below inner o (Some n) types = refl
 
 module _ (texts : List (List ℕ)) (below : ℕ) (o : Opening) where
   pub declarator_is : (types : List Name) (base : TypeTree) (count : ℕ) (ts : List Token)
-      → reader.declarator_in texts below (parts texts below) o types base count ts ≡ part.declarator_on texts below o.outer o.noted (storage_of o.specified) types (depth_of_type base) count ts
+      → reader.declarator_in texts below (parts texts below) o types base count ts ≡ part.declarator_on texts below o.noted (storage_of o.specified) types (depth_of_type base) count ts
   unfolding reader.declarator_in
   declarator_is types base count ts = rw (same_typedef (storage_of o.specified)) refl
 
@@ -105,15 +115,14 @@ same_place (tree.Same place) = refl
 
 -- ---- declarations by what their declarators share
 
-module _ (texts : List (List ℕ)) (below : ℕ) (o : Opening) (s : Shared) (outer : s.outer.now ≡ o.outer) (notes : part.notes_of texts below s ≡ o.notes) (noted : s.noted.now ≡ o.noted)
+module _ (texts : List (List ℕ)) (below : ℕ) (o : Opening) (s : Shared) (notes : part.notes_of texts below s ≡ o.notes) (noted : s.noted.now ≡ o.noted)
     (stored : s.storage ≡ storage_of o.specified) (later : plain_later s.later ≡ again o.base) where
   shared_declarator : (types : List Name) (base : TypeTree) (count : ℕ) (ts : List Token) → base ≡ again o.base
-      → reader.declarator_in texts below (parts texts below) o types (again o.base) count ts ≡ part.declarator_on texts below s.outer.now s.noted.now s.storage types (depth_of_type base) count ts
+      → reader.declarator_in texts below (parts texts below) o types (again o.base) count ts ≡ part.declarator_on texts below s.noted.now s.storage types (depth_of_type base) count ts
   shared_declarator types base count ts is = declarator_is texts below o types (again o.base) count ts
-      ∙ ap (λ l. part.declarator_on texts below l o.noted (storage_of o.specified) types (depth_of_type (again o.base)) count ts) (sym outer)
-      ∙ ap (λ l. part.declarator_on texts below s.outer.now l (storage_of o.specified) types (depth_of_type (again o.base)) count ts) (sym noted)
-      ∙ ap (λ l. part.declarator_on texts below s.outer.now s.noted.now l types (depth_of_type (again o.base)) count ts) (sym stored)
-      ∙ ap (λ t. part.declarator_on texts below s.outer.now s.noted.now s.storage types (depth_of_type t) count ts) (sym is)
+      ∙ ap (λ l. part.declarator_on texts below l (storage_of o.specified) types (depth_of_type (again o.base)) count ts) (sym noted)
+      ∙ ap (λ l. part.declarator_on texts below s.noted.now l types (depth_of_type (again o.base)) count ts) (sym stored)
+      ∙ ap (λ t. part.declarator_on texts below s.noted.now s.storage types (depth_of_type t) count ts) (sym is)
 
   shared_behind : (base : TypeTree) (ds : List DeclTree) (types : List Name) (d : Declarator × ℕ) (ts : List Token)
       → reader.behind texts below (parts texts below) o base ds types d ts ≡ part.behind texts below (part.notes_of texts below s) s.storage base ds types d ts
@@ -125,10 +134,10 @@ module _ (texts : List (List ℕ)) (below : ℕ) (o : Opening) (s : Shared) (out
   unfolding reader.next_declarator
   next_is l ts = then_same (token unexpected (is_comma (reading texts l.types)) ts)
       (λ t. reader.declarator_in texts below (parts texts below) o l.types (again o.base) (suc l.count) >>= reader.behind texts below (parts texts below) o (again o.base) l.list l.types)
-      (λ t. part.declarator_on texts below s.outer.now s.noted.now s.storage l.types (depth_of_type (plain_later s.later)) (suc l.count) >>= part.behind texts below (part.notes_of texts below s) s.storage (plain_later s.later) l.list l.types)
+      (λ t. part.declarator_on texts below s.noted.now s.storage l.types (depth_of_type (plain_later s.later)) (suc l.count) >>= part.behind texts below (part.notes_of texts below s) s.storage (plain_later s.later) l.list l.types)
       (λ t mid.
       ap (λ x. and_then x (reader.behind texts below (parts texts below) o (again o.base) l.list l.types)) (shared_declarator l.types (plain_later s.later) (suc l.count) mid later)
-      ∙ then_same (part.declarator_on texts below s.outer.now s.noted.now s.storage l.types (depth_of_type (plain_later s.later)) (suc l.count) mid)
+      ∙ then_same (part.declarator_on texts below s.noted.now s.storage l.types (depth_of_type (plain_later s.later)) (suc l.count) mid)
       (reader.behind texts below (parts texts below) o (again o.base) l.list l.types) (part.behind texts below (part.notes_of texts below s) s.storage (plain_later s.later) l.list l.types)
       (λ d rest. shared_behind (again o.base) l.list l.types d rest
       ∙ ap (λ base. part.behind texts below (part.notes_of texts below s) s.storage base l.list l.types d rest) (sym later)))
@@ -147,9 +156,7 @@ module _ (texts : List (List ℕ)) (below : ℕ) (o : Opening) (s : Shared) (out
   pub nameless_is : (ts : List Token) → o.base ≡ type_in o.specified → part.nameless texts below o ts ≡ part.nameless_behind texts below s o.specified o.count ts
   unfolding reader.nameless
   nameless_is ts is =
-      ap (λ l. and_then (reader.judged_by texts below (parts texts below) (part.misplacement texts below l o.noted bearer.Object) o.count first ts) ending) (sym outer)
-      ∙ ap (λ l. and_then (reader.judged_by texts below (parts texts below) (part.misplacement texts below s.outer.now l bearer.Object) o.count first ts) ending) (sym noted)
-      ∙ by_count (part.misplacement texts below s.outer.now s.noted.now bearer.Object)
+      ap (λ l. and_then (reader.judged_by texts false l o.count first ts) ending) (sym noted) ∙ by_stand (all_stand false s.noted.now)
     where
       first : Declarations
       first = reader.nameless_of texts below (parts texts below) o (place_of_base o.base)
@@ -163,13 +170,19 @@ module _ (texts : List (List ℕ)) (below : ℕ) (o : Opening) (s : Shared) (out
       ending : Declarations → Parser Token Declarations
       ending ds = token unexpected (is_mark (reading texts o.specified.types) mark.Semicolon) >>= (λ c. pure ds)
 
-      by_count : (m : Option ℕ) → and_then (reader.judged_by texts below (parts texts below) m o.count first ts) ending ≡ and_then (part.pardoned m o.count ts) (λ p. ending last)
-      by_count None = ap (λ ds. ending ds ts) alike
-      by_count (Some left) = by_token (token (misplaced_before (left + o.count)) is_pardon ts)
-        where
-          by_token : (x : Outcome Token Token) → and_then (and_then x (λ t. pure first)) ending ≡ and_then (and_then x (λ t. pure (Some t))) (λ p. ending last)
-          by_token (done t rest) = ap (λ ds. ending ds rest) alike
-          by_token (stop n left) = refl
+      by_token : (x : Outcome Token Token) → and_then (and_then x (λ t. pure first)) ending ≡ and_then (and_then x (λ t. pure false)) (λ p. ending last)
+      by_token (done t rest) = ap (λ ds. ending ds rest) alike
+      by_token (stop n left) = refl
+
+      by_shown : (z : Bool) → and_then (shown_or (length s.noted.now + o.count) ts first z) ending
+          ≡ and_then (shown_or (length s.noted.now + o.count) ts false z) (λ p. ending last)
+      by_shown true = refl
+      by_shown false = by_token (token unexpected is_pardon ts)
+
+      by_stand : (z : Bool) → and_then ((if z then pure first else pardoned texts (length s.noted.now + o.count) first) ts) ending
+          ≡ and_then ((if z then pure false else pardoned texts (length s.noted.now + o.count) false) ts) (λ p. ending last)
+      by_stand true = ap (λ ds. ending ds ts) alike
+      by_stand false = by_shown (at_next (shows_object (reading texts [])) ts)
 
 -- ---- readers behind the first steps of each
 
@@ -177,7 +190,7 @@ text_faults : {A : Type 0} (o : Outcome Token A) (ts : List Token) (e : ReadFaul
 text_faults o ts (Refused reason left) stops = ap (with_front ts) stops
 text_faults o ts Memory stops = stops
 
-module _ (texts : List (List ℕ)) (below : ℕ) (outer : List Name) (noted : List Token) (st : Storage) (types : List Name) (depth count : ℕ) (ts : List Token) where
+module _ (texts : List (List ℕ)) (below : ℕ) (noted : List Token) (st : Storage) (types : List Name) (depth count : ℕ) (ts : List Token) where
   abbrev declarators_here : Outcome Token Declarator
   declarators_here = declarators (reading texts types) (not (part.is_typedef st)) false below (parts texts below) (below - depth) 0 ts
 
@@ -185,26 +198,26 @@ module _ (texts : List (List ℕ)) (below : ℕ) (outer : List Name) (noted : Li
     abbrev so_far : ℕ
     so_far = count + length (take (length ts - length rest) ts)
 
-    abbrev judged_here : Outcome Token (Option Token)
-    judged_here = part.pardoned (part.misplacement texts below outer noted (bearer_of (declares_function d.pieces))) so_far rest
+    pub judged_stops : (e : ReadFault) → IsFault (reader.judged_by texts (declares_function d.pieces) noted so_far (declares_function d.pieces) rest) e → IsFault (part.declarator_on texts below noted st types depth count ts) e
+    judged_stops e stops = rw read (fault_first _ _ e (text_faults _ ts e (judged_faults texts (declares_function d.pieces) noted so_far (declares_function d.pieces) d rest e stops)))
 
-    pub judged_faults : (e : ReadFault) → IsFault judged_here e → IsFault (part.declarator_on texts below outer noted st types depth count ts) e
-    judged_faults e stops = rw read (fault_first _ _ e (text_faults _ ts e (pardoned_faults texts below (parts texts below) (part.misplacement texts below outer noted (bearer_of (declares_function d.pieces))) so_far d rest e stops)))
+    pub judged_stands : all_stand (declares_function d.pieces) noted ≡ true → part.declarator_on texts below noted st types depth count ts ≡ done (d, so_far) rest
+    judged_stands stand = rw (read, stand) refl
 
 -- a comma is read, and what the declarator behind it stands on is known
 module _ (texts : List (List ℕ)) (below : ℕ) (s : Shared) (l : Listing) (ts : List Token) (t : Token) (mid : List Token) (comma : token unexpected (is_mark (reading texts l.types) mark.Comma) ts ≡ done t mid)
     (types : List Name) (same : types ≡ l.types) (depth : ℕ) (deep : depth ≡ depth_of_type (plain_later s.later)) (count : ℕ) (counted : count ≡ suc l.count) where
   abbrev declared_here : Outcome Token (Declarator × ℕ)
-  declared_here = part.declarator_on texts below s.outer.now s.noted.now s.storage types depth count mid
+  declared_here = part.declarator_on texts below s.noted.now s.storage types depth count mid
 
-  declared_there : declared_here ≡ part.declarator_on texts below s.outer.now s.noted.now s.storage l.types (depth_of_type (plain_later s.later)) (suc l.count) mid
-  declared_there = ap (λ ns. part.declarator_on texts below s.outer.now s.noted.now s.storage ns depth count mid) same
-      ∙ ap (λ n. part.declarator_on texts below s.outer.now s.noted.now s.storage l.types n count mid) deep
-      ∙ ap (λ n. part.declarator_on texts below s.outer.now s.noted.now s.storage l.types (depth_of_type (plain_later s.later)) n mid) counted
+  declared_there : declared_here ≡ part.declarator_on texts below s.noted.now s.storage l.types (depth_of_type (plain_later s.later)) (suc l.count) mid
+  declared_there = ap (λ ns. part.declarator_on texts below s.noted.now s.storage ns depth count mid) same
+      ∙ ap (λ n. part.declarator_on texts below s.noted.now s.storage l.types n count mid) deep
+      ∙ ap (λ n. part.declarator_on texts below s.noted.now s.storage l.types (depth_of_type (plain_later s.later)) n mid) counted
 
   behind_comma : part.next_declarator texts below s l ts ≡ and_then declared_here (part.behind texts below (part.notes_of texts below s) s.storage (plain_later s.later) l.list l.types)
   behind_comma =
-      ap (λ o. and_then o (λ c. part.declarator_on texts below s.outer.now s.noted.now s.storage l.types (depth_of_type (plain_later s.later)) (suc l.count) >>= part.behind texts below (part.notes_of texts below s) s.storage (plain_later s.later) l.list l.types)) comma
+      ap (λ o. and_then o (λ c. part.declarator_on texts below s.noted.now s.storage l.types (depth_of_type (plain_later s.later)) (suc l.count) >>= part.behind texts below (part.notes_of texts below s) s.storage (plain_later s.later) l.list l.types)) comma
       ∙ ap (λ o. and_then o (part.behind texts below (part.notes_of texts below s) s.storage (plain_later s.later) l.list l.types)) (sym declared_there)
 
   pub next_faults : (e : ReadFault) → IsFault declared_here e → IsFault (part.next_declarator texts below s l ts) e

@@ -1,38 +1,31 @@
 -- Why the readers of declarations in a scope stop.
-use Rattle.std.proofs.Common.{◌≡◌, ◌⊎◌, ◌≤◌, ◌+◌, ◌-◌, ℕ, zero, suc, Bool, true, false, ◌||◌, List, [], ◌∷◌, ◌++◌, length, if◌then◌else◌, refl, sym, ap, ◌∙◌, subst, append_assoc, length-append, inl, inr, arith}
+use Rattle.std.proofs.Common.{◌≡◌, ◌⊎◌, ◌≤◌, ◌+◌, ◌-◌, ℕ, zero, suc, Bool, true, false, ◌||◌, List, [], ◌∷◌, ◌++◌, length, is_some, if◌then◌else◌, refl, sym, ap, ◌∙◌, subst, append_assoc, length-append, inl, inr, arith}
 use Rattle.std.specs.Prelude.{take}
 use Rattle.sb_base.specs.declared.interning.Name.{Name}
 use Rattle.sb_base.specs.declared.tokens.Token.{Token}
 use Rattle.sb_parse.specs.Parser.{Outcome, Parser, done, stop, at_next, and_then, ◌>>=◌, pure, token, choose, loop, looped}
 use Rattle.sb_parse.specs.Lawful.{Part}
 use Rattle.sb_tree.specs.Trees as tree
-use Rattle.sb_tree.specs.Trees.{TypeTree, OptionalInit, DeclTree, depth_of_type}
+use Rattle.sb_tree.specs.Trees.{NoteTree, TypeTree, OptionalInit, DeclTree, depth_of_type}
 use Rattle.sb_lexicon.specs.Lexicon.{Lexicon}
-use Rattle.sb_lexicon.specs.Tokens as expr
 use Rattle.sb_lexicon.specs.Tokens.{unexpected, misplaced_before, is_comma}
-use Rattle.sb_lexicon.specs.Reasons as expression
-use Rattle.sb_expr.specs.Expression.{Assignment, IsExpr}
-use Rattle.sb_sal.specs.declared.bearer.Bearer.{Bearer}
 use Rattle.sb_sal.specs.declared.bearer.Bearer.TheVariants as bearer
-use Rattle.sb_sal.specs.Notes.{AreNotes, inside}
+use Rattle.sb_sal.specs.Notes.{IsNote, is_bare, has_arguments, AreNotes, no_notes, more_notes}
 use Rattle.sb_sal.specs.Readers.{notes_reader}
-use Rattle.sb_sal.specs.Reasons.{IsNoteReason, no_annotation, no_place, other_arguments, other_kind}
-use Rattle.sb_sal.specs.Reasons as note
 use Rattle.sb_sal.specs.Spellings.{is_listed, may_stand}
 use Rattle.sb_parse.proofs.Explaining.{Stops}
-use Rattle.sb_sal.proofs.Filled.{filled}
-use Rattle.sb_sal.proofs.NoteReasons.{notes_reason}
 use Rattle.sb_specifier.specs.declared.seat.Seat.TheVariants as seat
 use Rattle.sb_specifier.specs.Specified.{reading, again, declares_function, bearer_of}
 use Rattle.sb_declare.specs.Readers as reader
-use Rattle.sb_specifier.specs.Readers.{place_of_base, Declarator, Declarations, Parts, is_pardon, is_semicolon, specifiers, ends_nameless}
-use Rattle.sb_declare.specs.Readers.{Opening, Listing, opening, judged, declarator_in, initialised, behind, next_declarator, rest_of_declaration, nameless, declaration_at, declaration_reader, functions_in}
+use Rattle.sb_specifier.specs.Readers.{place_of_base, Declarator, Declarations, Parts, is_pardon, is_semicolon, shows_object, specifiers, ends_nameless}
+use Rattle.sb_declare.specs.Readers.{Opening, Listing, all_stand, pardoned, opening, judged, declarator_in, initialised, behind, next_declarator, rest_of_declaration, nameless, declaration_at, declaration_reader, functions_in}
 use Rattle.sb_parse.specs.Texts.{with_front, with_text}
 use Rattle.sb_declarator.specs.Readers.{on, parts}
-use Rattle.sb_specifier.specs.Reasons.{Declares, a_name, no_name, misplaced, no_text, IsDeclarationReason, IsRefusedDeclaration}
+use Rattle.sb_specifier.specs.Reasons.{IsMisplaced, Declares, a_name, no_name, misplaced, no_text, IsDeclarationReason, IsRefusedDeclaration}
+use Rattle.sb_specifier.specs.Declaration.{IsDeclarator}
 use Rattle.sb_specifier.proofs.laws.More.{MembersLaws, ParametersLaws}
 use Rattle.sb_parse.proofs.Texts.{front_taken}
-use Rattle.sb_declare.proofs.laws.Judging.{Stands, Falls, verdict}
+use Rattle.sb_declare.proofs.laws.Judging.{pardon_shows_nothing}
 use Rattle.sb_declarator.proofs.laws.Members.{again_fits}
 use Rattle.sb_declare.proofs.laws.Scoping.{FitsOpening, more_opening, FitsFirst, more_in}
 use Rattle.sb_declare.proofs.laws.Scoped.{noted, opening_law, declarator_law, first_law}
@@ -44,92 +37,72 @@ use Rattle.sb_specifier.proofs.telling.Reasons.{reasons, notes_telling}
 use Rattle.sb_parse.proofs.Telling.{still, Tells, Telling, tells_behind, in_turn, by_choice, one_by_one, stopping, a_token, text_telling}
 use Rattle.sb_declarator.proofs.laws.Parts.{members_below, parameters_below}
 
--- ---- the annotation that may not stand there
+-- ---- annotations begin with a word that is listed
 
-record Misplaced (w : Lexicon) (may : Token → Bool) (bad : List Token) : Type 0 where
-  token : Token
-  rest : List Token
-  split : bad ≡ token ∷ rest
-  listed : is_listed w token ≡ true
-  not_there : may token ≡ false
+first_of_note : (w : Lexicon) (may : Token → Bool) (ts : List Token) (n : NoteTree) → IsNote w may ts n → (t : Token) (us : List Token) → ts ≡ t ∷ us → is_listed w t ≡ true
+first_of_note w may _ _ (is_bare _ s stands takes) t us e = let same : s ≡ t = cc e in ap (is_listed w) (sym same) ∙ ap is_some takes
+first_of_note w may _ _ (has_arguments _ s o c a ts args stands takes opens closes are) t us e = let same : s ≡ t = cc e in ap (is_listed w) (sym same) ∙ ap is_some takes
 
-expression_number : (w : Lexicon) (front bad : List Token) (n : ℕ) → expression.IsReason w (IsExpr w Assignment) front bad n → n ≡ expr.misplaced → ⊥
-expression_number w front _ _ expression.ends h = let both : Path ℕ 31 37 = h in omega arith
-expression_number w front _ _ (expression.no_text t rest none) h = let both : Path ℕ 31 37 = h in omega arith
-expression_number w front _ _ (expression.deeper t rest c) h = let both : Path ℕ 32 37 = h in omega arith
-expression_number w front _ _ (expression.feature t rest n shown none) h = let both : 100 + n ≡ 37 = h in omega arith
-
-misplaced_there : (w : Lexicon) (may : Token → Bool) (front bad : List Token) (n : ℕ) → IsNoteReason w may front bad n → n ≡ expr.misplaced → Misplaced w may bad
-misplaced_there w may front bad _ (no_annotation t rest e h) k = absurd (let both : Path ℕ 36 37 = k in omega arith)
-misplaced_there w may front bad _ (no_place t rest e h l) k = record { token = t; rest = rest; split = e; listed = h; not_there = l }
-misplaced_there w may front bad _ (other_arguments r) k = absurd (let both : Path ℕ 35 37 = k in omega arith)
-misplaced_there w may front bad _ (other_kind count r) k = absurd (let both : 1000 + count ≡ 37 = k in omega arith)
-misplaced_there w may front bad _ (note.in_expression before behind n e r) k = absurd (expression_number (inside w) behind bad n r k)
-misplaced_there w may front bad _ (note.deeper t rest e h) k = absurd (let both : Path ℕ 32 37 = k in omega arith)
-misplaced_there w may front bad _ note.no_text k = absurd (let both : Path ℕ 31 37 = k in omega arith)
+first_of_notes : (w : Lexicon) (may : Token → Bool) (ts : List Token) (ns : List NoteTree) → AreNotes w may ts ns → (t : Token) (us : List Token) → ts ≡ t ∷ us → is_listed w t ≡ true
+first_of_notes w may _ _ no_notes t us e = absurd (cc e)
+first_of_notes w may _ _ (more_notes [] ys ns n are is) t us e = first_of_note w may ys n is t us e
+first_of_notes w may _ _ (more_notes (x ∷ xs) ys ns n are is) t us e = let same : x ≡ t = cc e in ap (is_listed w) (sym same) ∙ first_of_notes w may (x ∷ xs) ns are x xs refl
 
 module _ (texts : List (List ℕ)) (below : ℕ) (part : ℕ → Parts) (T : (k : ℕ) → TellingParts texts (part k)) (M : MembersLaws texts below part) (P : ParametersLaws texts below part) (some : 1 ≤ below) where
   pub opening_telling : (types : List Name) → Telling (reasons texts) (opening texts below part types)
   unfolding opening
   opening_telling types =
-      one_by_one (reasons texts) (with_text (notes_reader (reading texts types) below (may_stand (reading texts types) bearer.Any))) _
-      (text_telling (reasons texts) (notes_reader (reading texts types) below (may_stand (reading texts types) bearer.Any)) (notes_telling texts types below bearer.Any)) (λ notes.
+      one_by_one (reasons texts) (with_text (notes_reader (reading texts types) below (may_stand (reading texts types) bearer.Function))) _
+      (text_telling (reasons texts) (notes_reader (reading texts types) below (may_stand (reading texts types) bearer.Function)) (notes_telling texts types below bearer.Function)) (λ notes.
       one_by_one (reasons texts) (with_text (specifiers texts seat.Scope below part types)) _
       (text_telling (reasons texts) (specifiers texts seat.Scope below part types) (specifiers_telling texts seat.Scope below part (λ k types. (T k types).0) types)) (λ s. still))
 
   module _ (types : List Name) (start : List Token) (o : Opening) (f : FitsOpening texts below types start o) where
     -- ---- annotations judged, behind so many tokens
 
-    judged_tells : {A : Type 0} (at : Bearer) (count : ℕ) (a : A) (shown : List Token) → count ≡ length shown → (ts : List Token) → (at_next is_pardon ts ≡ false → Declares texts at shown ts)
-        → Tells (reasons texts) ((o.noted ++ shown) ++ ts) (judged texts below part o at count a ts)
-    judged_tells {A = A} at count a shown counted ts declares = by_verdict (verdict texts below o (noted texts below part M P some types start o f) at)
+    abbrev plain : Lexicon
+    plain = reading texts []
+
+    -- the first of the annotations is misplaced
+    first_misplaced : (function : Bool) (count : ℕ) (shown ts : List Token) → count ≡ length shown → Declares texts (bearer_of function) shown ts → all_stand function o.noted ≡ false
+        → IsMisplaced texts (o.noted ++ shown) ts (length o.noted + count)
+    first_misplaced function count shown ts counted declares = by_tokens o.noted refl
       where
-        w : Lexicon
-        w = reading texts o.outer
+        by_tokens : (us : List Token) → o.noted ≡ us → all_stand function us ≡ false → IsMisplaced texts (o.noted ++ shown) ts (length o.noted + count)
+        by_tokens [] e h = absurd (cc h)
+        by_tokens (t ∷ us) e h =
+            let fits = noted texts below part M P some types start o f in
+            let sizes : length o.noted ≡ suc (length us) = ap length e in
+            record {
+              before = [];
+              ahead = [];
+              note = t;
+              others = us;
+              shown = shown;
+              outer = o.outer;
+              notes = o.notes;
+              declared = bearer_of function;
+              split = ap (λ z. z ++ shown) e;
+              counted = omega arith;
+              are_notes = subst (λ z. AreNotes (reading texts o.outer) (may_stand (reading texts o.outer) bearer.Function) z o.notes) e fits.0;
+              listed = first_of_notes (reading texts o.outer) (may_stand (reading texts o.outer) bearer.Function) o.noted o.notes fits.0 t us e;
+              not_there = ap (λ b. may_stand (reading texts o.outer) (bearer_of b) t) h;
+              declares = declares;
+            }
 
-        by_verdict : Stands texts below o (noted texts below part M P some types start o f) at ⊎ Falls texts below o (noted texts below part M P some types start o f) at
-            → Tells (reasons texts) ((o.noted ++ shown) ++ ts) (judged texts below part o at count a ts)
-        by_verdict (inl s) =
-            subst (λ z. Tells (reasons texts) ((o.noted ++ shown) ++ ts) (reader.judged_by texts below part (reader.misplaced_in texts below part z) count a ts)) (sym s.read) (record { front = o.noted ++ shown; split = refl })
-        by_verdict (inr x) =
-            subst (λ z. Tells (reasons texts) ((o.noted ++ shown) ++ ts) (reader.judged_by texts below part (reader.misplaced_in texts below part z) count a ts)) (sym x.read) (pardoned ts refl)
-          where
-            halts : at_next is_pardon ts ≡ false → Tells (reasons texts) {A = A} ((o.noted ++ shown) ++ ts) (stop (misplaced_before (x.left + count)) (length ts))
-            halts k =
-                let r = notes_reason (reading texts o.outer) below (may_stand (reading texts o.outer) at) (filled (reading texts o.outer) at) o.noted expr.misplaced x.left x.read in
-                let m = misplaced_there (reading texts o.outer) (may_stand (reading texts o.outer) at) r.front r.bad expr.misplaced r.reason refl in
-                let whole : o.noted ≡ r.front ++ (m.token ∷ m.rest) = r.split ∙ ap (λ z. r.front ++ z) m.split in
-                let lefts : x.left ≡ suc (length m.rest) = r.left_is ∙ ap length m.split in
-                record {
-                  front = o.noted ++ shown;
-                  bad = ts;
-                  split = refl;
-                  left_is = refl;
-                  why = misplaced (x.left + count) (record {
-                    before = [];
-                    ahead = r.front;
-                    note = m.token;
-                    others = m.rest;
-                    shown = shown;
-                    outer = o.outer;
-                    notes = o.notes;
-                    declared = at;
-                    split = ap (λ z. z ++ shown) whole;
-                    counted = omega arith;
-                    are_notes = subst (λ z. AreNotes (reading texts o.outer) (may_stand (reading texts o.outer) bearer.Any) z o.notes) whole (noted texts below part M P some types start o f).0;
-                    listed = m.listed;
-                    not_there = m.not_there;
-                    declares = declares k;
-                  });
-                }
+    judged_tells : {A : Type 0} (function : Bool) (count : ℕ) (a : A) (shown : List Token) → count ≡ length shown → (ts : List Token) → (at_next (shows_object plain) ts ≡ true → Declares texts (bearer_of function) shown ts)
+        → Tells (reasons texts) ((o.noted ++ shown) ++ ts) (judged texts below part o function count a ts)
+    judged_tells {A = A} function count a shown counted ts declares = by_stand (all_stand function o.noted) refl
+      where
+        waits : Telling (reasons texts) (token unexpected is_pardon >>= (λ t. pure a))
+        waits = one_by_one (reasons texts) (token unexpected is_pardon) (λ t. pure a) (a_token (reasons texts) is_pardon) (λ t. still)
 
-            by_test : (t : Token) (us : List Token) → t ∷ us ≡ ts → (b : Bool) → is_pardon t ≡ b → Tells (reasons texts) ((o.noted ++ shown) ++ ts) (and_then (if b then done t us else stop (misplaced_before (x.left + count)) (suc (length us))) (λ t. pure a))
-            by_test t us e true h = record { front = (o.noted ++ shown) ++ (t ∷ []); split = ap (λ z. (o.noted ++ shown) ++ z) (sym e) ∙ sym (append_assoc (o.noted ++ shown) (t ∷ []) us) }
-            by_test t us e false h = subst (λ z. Stops (IsDeclarationReason texts) ((o.noted ++ shown) ++ ts) (misplaced_before (x.left + count)) z) (ap length (sym e)) (halts (ap (at_next is_pardon) (sym e) ∙ h))
-
-            pardoned : (us : List Token) → us ≡ ts → Tells (reasons texts) ((o.noted ++ shown) ++ ts) (and_then (token (misplaced_before (x.left + count)) is_pardon us) (λ t. pure a))
-            pardoned [] e = subst (λ z. Stops (IsDeclarationReason texts) ((o.noted ++ shown) ++ ts) (misplaced_before (x.left + count)) z) (ap length (sym e)) (halts (ap (at_next is_pardon) (sym e)))
-            pardoned (t ∷ us) e = by_test t us e (is_pardon t) refl
+        by_stand : (b : Bool) → all_stand function o.noted ≡ b → Tells (reasons texts) ((o.noted ++ shown) ++ ts) ((if b then pure a else pardoned texts (length o.noted + count) a) ts)
+        by_stand true h = record { front = o.noted ++ shown; split = refl }
+        by_stand false h =
+            by_choice (reasons texts) (at_next (shows_object plain) ts) (stop (misplaced_before (length o.noted + count)) (length ts)) (and_then (token unexpected is_pardon ts) (λ t. pure a)) ((o.noted ++ shown) ++ ts)
+            (λ k. record { front = o.noted ++ shown; bad = ts; split = refl; left_is = refl; why = misplaced (length o.noted + count) (first_misplaced function count shown ts counted (declares k) h) })
+            (λ k. tells_behind (reasons texts) {A = A} (o.noted ++ shown) ts (and_then (token unexpected is_pardon ts) (λ t. pure a)) (waits ts))
 
     -- ---- with how many tokens stand behind the annotations
 
@@ -173,7 +146,11 @@ module _ (texts : List (List ℕ)) (below : ℕ) (part : ℕ → Parts) (T : (k 
       all = (o.noted ++ shown) ++ ts
 
       abbrev judging : Declarator × List Token → Parser Token Declarator
-      judging d = judged texts below part o (bearer_of (declares_function d.0.pieces)) (count + length d.1) d.0
+      judging d = judged texts below part o (declares_function d.0.pieces) (count + length d.1) d.0
+
+      named_there : (before front rest : List Token) (d : Declarator) → IsDeclarator texts now functions false front d → at_next (shows_object plain) rest ≡ true → Declares texts (bearer_of (declares_function d.pieces)) (before ++ front) rest
+      named_there before front [] d is h = absurd (cc h)
+      named_there before front (c ∷ rest) d is h = a_name now functions before front rest c d is h
 
       inner_tells : Tells (reasons texts) all (and_then (with_front ts (on texts below part now functions false base ts)) judging)
       inner_tells = go (on texts below part now functions false base ts) refl (on_telling texts below part T now functions false base ts)
@@ -184,8 +161,8 @@ module _ (texts : List (List ℕ)) (below : ℕ) (part : ℕ → Parts) (T : (k 
               let u = (declarator_law texts below part M P some types start o f now base deep count).sound ts d rest e in
               let text : take (length ts - length rest) ts ≡ u.front = text_is ts u.front rest u.split in
               subst (λ z. Tells (reasons texts) z (judging (d, take (length ts - length rest) ts) rest)) (sym (further_on shown u.front rest ts u.split))
-              (judged_tells (bearer_of (declares_function d.pieces)) (count + length (take (length ts - length rest) ts)) d (shown ++ u.front) (ap (λ z. count + length z) text ∙ counted_more count shown u.front counted) rest
-              (λ k. a_name now (functions_in o.specified) shown u.front rest d u.is.is))
+              (judged_tells (declares_function d.pieces) (count + length (take (length ts - length rest) ts)) d (shown ++ u.front) (ap (λ z. count + length z) text ∙ counted_more count shown u.front counted) rest
+              (λ k. named_there shown u.front rest d u.is.is k))
 
       wrapped : (q : Outcome Token Declarator) → Tells (reasons texts) all q → Tells (reasons texts) {A = Declarator × ℕ} all (and_then (with_front ts q) (λ d. pure (d.0, count + length d.1)))
       wrapped (done d rest) f = f
@@ -281,7 +258,7 @@ module _ (texts : List (List ℕ)) (below : ℕ) (part : ℕ → Parts) (T : (k 
     pub nameless_tells : (ts : List Token) → at_next ends ts ≡ true → Tells (reasons texts) ((o.noted ++ f.specified) ++ ts) (nameless texts below part o (place_of_base o.base) ts)
     unfolding nameless
     nameless_tells ts h =
-        in_turn (reasons texts) (judged texts below part o bearer.Object o.count value ts) ending ((o.noted ++ f.specified) ++ ts) (judged_tells bearer.Object o.count value f.specified f.count_is ts (declares ts h))
+        in_turn (reasons texts) (judged texts below part o false o.count value ts) ending ((o.noted ++ f.specified) ++ ts) (judged_tells false o.count value f.specified f.count_is ts (declares ts h))
         (λ ds rest e xs split. tells_behind (reasons texts) xs rest (ending ds rest) (ending_telling ds rest))
       where
         value : Declarations
@@ -293,14 +270,14 @@ module _ (texts : List (List ℕ)) (below : ℕ) (part : ℕ → Parts) (T : (k 
         ending_telling : (ds : Declarations) → Telling (reasons texts) (ending ds)
         ending_telling ds = one_by_one (reasons texts) (token unexpected (is_semicolon (reading texts o.specified.types))) (λ c. pure ds) (a_token (reasons texts) (is_semicolon (reading texts o.specified.types))) (λ c. still)
 
-        declares : (ts : List Token) → at_next ends ts ≡ true → at_next is_pardon ts ≡ false → Declares texts bearer.Object f.specified ts
+        declares : (ts : List Token) → at_next ends ts ≡ true → at_next (shows_object plain) ts ≡ true → Declares texts bearer.Object f.specified ts
         declares [] h k = absurd (cc h)
-        declares (t ∷ ts) h k = no_name f.specified ts t (one_of (is_semicolon (reading texts types) t) (is_pardon t) h k)
+        declares (t ∷ ts) h k = no_name f.specified ts t (one_of (is_semicolon (reading texts types) t) (is_pardon t) refl h)
           where
-            one_of : (b c : Bool) → (b || c) ≡ true → c ≡ false → b ≡ true
-            one_of true c h k = refl
-            one_of false true h k = absurd (cc k)
-            one_of false false h k = absurd (cc h)
+            one_of : (b c : Bool) → is_pardon t ≡ c → (b || c) ≡ true → b ≡ true
+            one_of true c p h = refl
+            one_of false true p h = let both : true ≡ false = sym k ∙ pardon_shows_nothing texts t p in absurd (cc both)
+            one_of false false p h = absurd (cc h)
 
     -- ---- what follows an opening
 

@@ -9,7 +9,7 @@ use Rattle.sb_tree.specs.Plain.{decl_list}
 use Rattle.sb_sign.specs.Signs as sign
 use Rattle.sb_tree.specs.Trees.{NoteTree, TypeTree, depth_of_decls}
 use Rattle.sb_lexicon.specs.Lexicon.{Lexicon, name_of, is_keyword, is_type_name}
-use Rattle.sb_lexicon.specs.Tokens.{unexpected, too_deep, bad_arguments, unknown, volatile, is_open, is_star}
+use Rattle.sb_lexicon.specs.Tokens.{unexpected, too_deep, bad_arguments, unknown, misplaced, volatile, is_open, is_star}
 use Rattle.sb_lexicon.proofs.Depths.{room_within}
 use Rattle.sb_parse.proofs.Ways.{and_first, and_second, or_first, or_second}
 use Rattle.sb_sal.specs.declared.bearer.Bearer.TheVariants as bearer
@@ -34,9 +34,10 @@ use Rattle.sb_declare.proofs.deepening.Barred.{Enters, FromDepth, begins}
 use Rattle.sb_initialiser.proofs.deepening.Initialisers.{initialiser_deepens}
 use Rattle.sb_declare.proofs.deepening.Declarations.{declaration_past}
 use Rattle.sb_declare.proofs.deepening.Readers.{scope_specifiers, scope_declarators}
-use Rattle.sb_statement.specs.Readers.{Body, names_declaration, goes_on_type, room_for, crowded}
+use Rattle.sb_statement.specs.Readers.{Body, names_declaration, goes_on_type, is_misplaced, room_for, crowded}
 use Rattle.sb_statement.proofs.tokens.Names.{name_specifies_none}
 use Rattle.sb_statement.proofs.widening.Crowded.{first_so}
+use Rattle.sb_statement.proofs.widening.Starts.{second_so}
 use Rattle.sb_statement.proofs.deepening.Crowded.{applied_past, another_past, alone_read, GoesOnSo, by_word, by_star, by_open, by_name, ends_there}
 
 either_way : {X : Type 0} (b c : Bool) → (b || c) ≡ true → (b ≡ true → X) → (c ≡ true → X) → X
@@ -110,7 +111,7 @@ module _ (texts : List (List ℕ)) (types : List Name) (n : ℕ) (t : Token) whe
     deep = suc (suc x)
 
     abbrev notes_there : Parser Token (List NoteTree)
-    notes_there = notes_reader w deep (may_stand w bearer.Any)
+    notes_there = notes_reader w deep (may_stand w bearer.Function)
 
     abbrev specified_there : Parser Token (Specified × TypeTree)
     specified_there = specifiers texts seat.Scope deep (parts texts deep) types
@@ -157,8 +158,15 @@ module _ (texts : List (List ℕ)) (types : List Name) (n : ℕ) (t : Token) whe
       by_test false h = refl
       by_test true h = absurd (not_so unknown (length ts) left (λ h. (let both : Path ℕ 36 32 = h in omega arith)) (sym (first_so {A = Body} _ _ _ _ h refl) ∙ e))
 
+  placed_there : (ts : List Token) (left : ℕ) → barred {A = Body} w seat.Scope ts ≡ stop too_deep left → at_next (is_misplaced w) ts ≡ false
+  placed_there ts left e = by_test (at_next (is_misplaced w) ts) refl
+    where
+      by_test : (b : Bool) → at_next (is_misplaced w) ts ≡ b → b ≡ false
+      by_test false h = refl
+      by_test true h = absurd (not_so misplaced (length ts) left (λ h. (let both : Path ℕ 37 32 = h in omega arith)) (sym (second_so {A = Body} _ _ _ _ (known_there ts left e) (first_so _ _ _ _ h refl)) ∙ e))
+
   -- without arguments
-  module _ (bare : is_bare w t ≡ true) where
+  module _ (bare : is_bare w t ≡ true) (placed : is_misplaced w t ≡ false) where
     bare_deeper : (ts : List Token) (left : ℕ) → at_next (is_open w) ts ≡ false → barred {A = Body} w seat.Scope ts ≡ stop too_deep left → Deeper ts left
     bare_deeper [] left opens e = absurd (not_so unexpected 0 left not_unexpected e)
     bare_deeper (s ∷ us) left opens e =
@@ -169,11 +177,11 @@ module _ (texts : List (List ℕ)) (types : List Name) (n : ℕ) (t : Token) whe
       where
         by_note : (x : ℕ) → n ≤ x → Enters texts types seat.Scope (suc (suc x)) (parts texts (suc (suc x))) (s ∷ us) → (b : Bool) → begins_note w s ≡ b → Deeper (s ∷ us) (length (s ∷ us))
         by_note x le E true h =
-            deeper_at x (length (s ∷ us)) (s ∷ us) le (notes_then x (length (s ∷ us)) (t ∷ (s ∷ us)) (another_past w (suc (suc x)) (omega arith) t s us bare (listed_there s (known_there (s ∷ us) left e) h)))
+            deeper_at x (length (s ∷ us)) (s ∷ us) le (notes_then x (length (s ∷ us)) (t ∷ (s ∷ us)) (another_past w (suc (suc x)) (omega arith) t s us bare placed (listed_there s (known_there (s ∷ us) left e) h) (placed_there (s ∷ us) left e)))
         by_note x le (inl P) false h =
-            absurd (unread [] (s ∷ us) (subst (Past (length (s ∷ us))) (no_notes w (suc (suc x)) (may_stand w bearer.Any) (s ∷ us) h) P))
+            absurd (unread [] (s ∷ us) (subst (Past (length (s ∷ us))) (no_notes w (suc (suc x)) (may_stand w bearer.Function) (s ∷ us) h) P))
         by_note x le (inr E) false h =
-            deeper_at x (length (s ∷ us)) (s ∷ us) le (specifiers_then x (length (s ∷ us)) (t ∷ (s ∷ us)) (s ∷ us) _ (alone_read w (suc (suc x)) (omega arith) t (s ∷ us) bare opens h) E.1)
+            deeper_at x (length (s ∷ us)) (s ∷ us) le (specifiers_then x (length (s ∷ us)) (t ∷ (s ∷ us)) (s ∷ us) _ (alone_read w (suc (suc x)) (omega arith) t (s ∷ us) bare placed opens h) E.1)
 
     behind_bare : (ts : List Token) (left : ℕ) → Path (Outcome Token Body) (choose (is_open w) (refuse bad_arguments) (barred w seat.Scope) ts) (stop too_deep left) → Deeper ts left
     behind_bare ts left e = by_open (at_next (is_open w) ts) refl e
@@ -183,16 +191,16 @@ module _ (texts : List (List ℕ)) (types : List Name) (n : ℕ) (t : Token) whe
         by_open false h e = bare_deeper ts left h e
 
   -- with arguments
-  behind_applied : is_bare w t ≡ false → is_listed w t ≡ true → (ts : List Token) (left : ℕ)
+  behind_applied : is_bare w t ≡ false → is_listed w t ≡ true → is_misplaced w t ≡ false → (ts : List Token) (left : ℕ)
       → Path (Outcome Token Body) (choose (is_open w) (refuse too_deep) (choose (λ s. true) (refuse bad_arguments) (refuse unexpected)) ts) (stop too_deep left) → Deeper ts left
-  behind_applied bare listed [] left e = absurd (not_so unexpected 0 left not_unexpected e)
-  behind_applied bare listed (o ∷ us) left e = by_open (is_open w o) refl e
+  behind_applied bare listed placed [] left e = absurd (not_so unexpected 0 left not_unexpected e)
+  behind_applied bare listed placed (o ∷ us) left e = by_open (is_open w o) refl e
     where
       by_open : (b : Bool) → is_open w o ≡ b → Path (Outcome Token Body) (if b then stop too_deep (length (o ∷ us)) else stop bad_arguments (length (o ∷ us))) (stop too_deep left) → Deeper (o ∷ us) left
       by_open false h e = absurd (not_so bad_arguments (length (o ∷ us)) left not_bad_arguments e)
       by_open true h e =
           let lefts : length (o ∷ us) ≡ left = cc e in
-          subst (Deeper (o ∷ us)) lefts (deeper_at n (length (o ∷ us)) (o ∷ us) (omega arith) (notes_then n (length (o ∷ us)) (t ∷ (o ∷ us)) (applied_past w (suc (suc n)) (omega arith) t o us listed bare h)))
+          subst (Deeper (o ∷ us)) lefts (deeper_at n (length (o ∷ us)) (o ∷ us) (omega arith) (notes_then n (length (o ∷ us)) (t ∷ (o ∷ us)) (applied_past w (suc (suc n)) (omega arith) t o us listed placed bare h)))
 
   -- a name that begins a declaration and is no annotation
   type_named : names_declaration w t ≡ true → is_unlisted w t ≡ false → is_listed w t ≡ false → is_type_name w t ≡ true
@@ -206,13 +214,13 @@ module _ (texts : List (List ℕ)) (types : List Name) (n : ℕ) (t : Token) whe
       by_tests false false true no_word no_note h = absurd (cc no_note)
       by_tests false false false no_word no_note h = absurd (cc h)
 
-  pub crowded_deeper : (ts : List Token) (left : ℕ) → names_declaration w t ≡ true → is_unlisted w t ≡ false → crowded {A = Body} w t ts ≡ stop too_deep left → Deeper ts left
-  crowded_deeper ts left names unlisted e = by_kind (is_bare w t) (is_listed w t) refl refl e
+  pub crowded_deeper : (ts : List Token) (left : ℕ) → names_declaration w t ≡ true → is_unlisted w t ≡ false → is_misplaced w t ≡ false → crowded {A = Body} w t ts ≡ stop too_deep left → Deeper ts left
+  crowded_deeper ts left names unlisted placed e = by_kind (is_bare w t) (is_listed w t) refl refl e
     where
       by_kind : (c d : Bool) → is_bare w t ≡ c → is_listed w t ≡ d
           → Path (Outcome Token Body) ((if c then choose (is_open w) (refuse bad_arguments) (barred w seat.Scope)
           else (if d then choose (is_open w) (refuse too_deep) (choose (λ s. true) (refuse bad_arguments) (refuse unexpected))
           else choose (is_keyword w keyword.Volatile) (refuse volatile) (choose (goes_on_type w) (refuse too_deep) (refuse unexpected)))) ts) (stop too_deep left) → Deeper ts left
-      by_kind true d bare listed e = behind_bare bare ts left e
-      by_kind false true bare listed e = behind_applied bare listed ts left e
+      by_kind true d bare listed e = behind_bare bare placed ts left e
+      by_kind false true bare listed e = behind_applied bare listed placed ts left e
       by_kind false false bare listed e = behind_type (type_named names unlisted listed) ts left e

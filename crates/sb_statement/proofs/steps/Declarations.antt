@@ -11,16 +11,16 @@ use Rattle.sb_specifier.specs.Readers.{is_name}
 use Rattle.sb_specifier.specs.Specified.{reading}
 use Rattle.sb_statement.specs.Meaning.{nested}
 use Rattle.sb_statement.specs.Readers as spec
-use Rattle.sb_statement.specs.Readers.{Body, room_for, crowded}
+use Rattle.sb_statement.specs.Readers.{Body, room_for, is_misplaced, crowded}
 
 module _ (texts : List (List ℕ)) (below : ℕ) (b : Body) (ts : List Token) (t : Token) (rest : List Token) where
-  crowded_at : at_next (is_unlisted (reading texts b.types)) ts ≡ false → at_next (λ t. nat_lt below (room_for (reading texts b.types) t)) ts ≡ true
+  crowded_at : at_next (is_unlisted (reading texts b.types)) ts ≡ false → at_next (is_misplaced (reading texts b.types)) ts ≡ false → at_next (λ t. nat_lt below (room_for (reading texts b.types) t)) ts ≡ true
       → token unexpected (is_name (reading texts b.types)) ts ≡ done t rest → nested spec.named_declaration texts below b ts ≡ crowded {A = Body} (reading texts b.types) t rest
   unfolding spec.named_declaration
-  crowded_at listed lacks named = rw (listed, lacks, named) refl
+  crowded_at listed placed lacks named = rw (listed, placed, lacks, named) refl
 
-  pub named_crowded : (w : Lexicon) → w ≡ reading texts b.types → at_next (is_unlisted w) ts ≡ false → at_next (λ t. nat_lt below (room_for w t)) ts ≡ true
+  pub named_crowded : (w : Lexicon) → w ≡ reading texts b.types → at_next (is_unlisted w) ts ≡ false → at_next (is_misplaced w) ts ≡ false → at_next (λ t. nat_lt below (room_for w t)) ts ≡ true
       → token unexpected (is_name w) ts ≡ done t rest → (fault : ReadFault) → IsFault (crowded {A = Body} w t rest) fault → IsFault (nested spec.named_declaration texts below b ts) fault
-  named_crowded w is listed lacks named fault why =
-      rw (crowded_at (subst (λ v. at_next (is_unlisted v) ts ≡ false) is listed) (subst (λ v. at_next (λ t. nat_lt below (room_for v t)) ts ≡ true) is lacks) (subst (λ v. token unexpected (is_name v) ts ≡ done t rest) is named))
+  named_crowded w is listed placed lacks named fault why =
+      rw (crowded_at (subst (λ v. at_next (is_unlisted v) ts ≡ false) is listed) (subst (λ v. at_next (is_misplaced v) ts ≡ false) is placed) (subst (λ v. at_next (λ t. nat_lt below (room_for v t)) ts ≡ true) is lacks) (subst (λ v. token unexpected (is_name v) ts ≡ done t rest) is named))
       (subst (λ v. IsFault (crowded {A = Body} v t rest) fault) is why)

@@ -1,5 +1,5 @@
 -- Declarations that begin with a name, a typedef name or an annotation: how deep they are, and what stands behind the name.
-use Rattle.std.proofs.Common.{◌≡◌, ◌≤◌, ◌⊎◌, ℕ, suc, max, Bool, true, false, ◌||◌, List, [], ◌∷◌, ◌++◌, Option, Some, None, is_some, refl, sym, ap, ◌∙◌, subst, inl, inr, append-nil, le_trans, arith}
+use Rattle.std.proofs.Common.{◌≡◌, ◌≤◌, ◌⊎◌, ℕ, suc, max, Bool, true, false, ◌&&◌, ◌||◌, not, List, [], ◌∷◌, ◌++◌, Option, Some, None, is_some, if◌then◌else◌, refl, sym, ap, ◌∙◌, subst, inl, inr, append-nil, le_trans, arith}
 use Rattle.std.proofs.Math.Nat.{le-max_left, le-max_right, max-le}
 use Rattle.std.specs.Option.{option_map_or}
 use Rattle.sb_base.specs.declared.interning.Name.{Name}
@@ -13,17 +13,19 @@ use Rattle.sb_tree.specs.Plain.{arg_list, note_list, decl_list}
 use Rattle.sb_sign.specs.Signs as sign
 use Rattle.sb_tree.specs.Trees as tree
 use Rattle.sb_tree.specs.Trees.{ArgTree, ExprArg, NoteArg, NoteTree, TypeTree, OptionalInit, depth_of_arg, depth_of_args, depth_of_note, depth_of_notes, depth_of_decl, depth_of_decls, depth_of_type, depth_of_optional_init}
-use Rattle.sb_lexicon.specs.Lexicon.{Lexicon, is_mark, is_keyword, is_type_name}
+use Rattle.sb_lexicon.specs.Lexicon.{Lexicon, is_mark, is_keyword, is_type_name, name_of}
 use Rattle.sb_lexicon.specs.Tokens.{is_open, is_colon}
 use Rattle.sb_lexicon.proofs.Depths.{some_depth}
 use Rattle.sb_lexicon.proofs.Lexemes.{keyword_is, mark_is, mark_alone}
 use Rattle.sb_operand.specs.Pieces.{typed}
-use Rattle.sb_sal.specs.declared.bearer.Bearer.{Bearer}
 use Rattle.sb_sign.specs.declared.spelling.Arguments.{Arguments}
 use Rattle.sb_sign.specs.declared.spelling.Arguments.TheVariants as arguments
 use Rattle.sb_sal.specs.Notes.{IsNote, is_bare, has_arguments, AreArguments, one_size, two_sizes, a_condition, memory, a_note, guarded, located, AreNotes, no_notes, more_notes}
 use Rattle.sb_sal.specs.Readers.{is_nothing}
-use Rattle.sb_sal.specs.Spellings.{begins_note, arguments_of}
+use Rattle.sb_sal.specs.declared.bearer.Bearer.TheVariants as bearer
+use Rattle.sb_parse.proofs.Ways.{and_fails}
+use Rattle.sb_statement.specs.Readers.{is_misplaced}
+use Rattle.sb_sal.specs.Spellings.{begins_note, arguments_of, arguments_in, is_listed, looks_like_note, may_stand, word_of}
 use Rattle.sb_sal.proofs.Noting.{some_note, note_begins}
 use Rattle.sb_sal.proofs.Tokens.{mark_no_note}
 use Rattle.sb_specifier.specs.declared.seat.Seat.{Seat}
@@ -84,22 +86,23 @@ module _ (w : Lexicon) where
   args_deep _ _ _ _ (located may xs ys c e n h is also) = first_deep (ExprArg e) (NoteArg n ∷ [])
 
   -- what an annotation is that begins with a token
-  pub record Noted (o : Token) (rest : List Token) (depth : ℕ) : Type 0 where
+  pub record Noted (may : Token → Bool) (o : Token) (rest : List Token) (depth : ℕ) : Type 0 where
     pub kind : Arguments
     pub takes : arguments_of w o ≡ Some kind
+    pub stands : may o ≡ true
     pub deep : is_nothing kind ≡ false → 2 ≤ depth
     pub off : at_next (is_colon w) rest ≡ false
 
-  note_noted : (may : Token → Bool) (ts : List Token) (n : NoteTree) → IsNote w may ts n → (o : Token) (rest : List Token) → ts ≡ o ∷ rest → Noted o rest (depth_of_note n)
+  note_noted : (may : Token → Bool) (ts : List Token) (n : NoteTree) → IsNote w may ts n → (o : Token) (rest : List Token) → ts ≡ o ∷ rest → Noted may o rest (depth_of_note n)
   note_noted _ _ _ (is_bare may t stands nothing) o rest e =
       let head : t ≡ o = cc e in
       let tail : rest ≡ [] = cc e in
-      record { kind = arguments.Nothing; takes = sym (ap (arguments_of w) head) ∙ nothing; deep = λ k. absurd (let both : true ≡ false = k in cc both); off = ap (at_next (is_colon w)) tail }
+      record { kind = arguments.Nothing; takes = sym (ap (arguments_of w) head) ∙ nothing; stands = sym (ap may head) ∙ stands; deep = λ k. absurd (let both : true ≡ false = k in cc both); off = ap (at_next (is_colon w)) tail }
   note_noted _ _ _ (has_arguments may t p c a ts args stands takes opens closes are) o rest e =
       let head : t ≡ o = cc e in
       let tail : rest ≡ p ∷ (ts ++ (c ∷ [])) = cc e in
       let one : 1 ≤ depth_of_args (arg_list args) = args_deep may a ts args are in
-      record { kind = a; takes = sym (ap (arguments_of w) head) ∙ takes; deep = λ k. omega arith; off = ap (at_next (is_colon w)) tail ∙ open_off p opens }
+      record { kind = a; takes = sym (ap (arguments_of w) head) ∙ takes; stands = sym (ap may head) ∙ stands; deep = λ k. omega arith; off = ap (at_next (is_colon w)) tail ∙ open_off p opens }
 
   -- the first of two lists begins with the token, or is empty
   abbrev Split : List Token → List Token → Token → List Token → Type 0
@@ -127,19 +130,20 @@ module _ (w : Lexicon) where
       le_trans (deep_with ns n) later
 
   -- a list of annotations by its first token
-  notes_noted : (may : Token → Bool) (ts : List Token) (ns : List NoteTree) → AreNotes w may ts ns → (o : Token) (rest : List Token) → ts ≡ o ∷ rest → Noted o rest (depth_of_notes (note_list ns))
+  notes_noted : (may : Token → Bool) (ts : List Token) (ns : List NoteTree) → AreNotes w may ts ns → (o : Token) (rest : List Token) → ts ≡ o ∷ rest → Noted may o rest (depth_of_notes (note_list ns))
   notes_noted may _ _ no_notes o rest e = absurd (cc e)
   notes_noted may _ _ (more_notes xs ys ns n are is) o rest e = by_split (in_two xs ys o rest e) (notes_noted may xs ns are o)
     where
-      by_split : Split xs ys o rest → ((front : List Token) → xs ≡ o ∷ front → Noted o front (depth_of_notes (note_list ns))) → Noted o rest (depth_of_notes (note_list (ns ++ (n ∷ []))))
+      by_split : Split xs ys o rest → ((front : List Token) → xs ≡ o ∷ front → Noted may o front (depth_of_notes (note_list ns))) → Noted may o rest (depth_of_notes (note_list (ns ++ (n ∷ []))))
       by_split (inl first) before =
-          let it : Noted o rest (depth_of_note n) = note_noted may ys n is o rest first.1 in
-          record { kind = it.kind; takes = it.takes; deep = λ k. le_trans (it.deep k) (deep_with ns n); off = it.off }
+          let it : Noted may o rest (depth_of_note n) = note_noted may ys n is o rest first.1 in
+          record { kind = it.kind; takes = it.takes; stands = it.stands; deep = λ k. le_trans (it.deep k) (deep_with ns n); off = it.off }
       by_split (inr later) before =
-          let it : Noted o later.0 (depth_of_notes (note_list ns)) = before later.0 later.1 in
+          let it : Noted may o later.0 (depth_of_notes (note_list ns)) = before later.0 later.1 in
           record {
             kind = it.kind;
             takes = it.takes;
+            stands = it.stands;
             deep = λ k. le_trans (it.deep k) (deeper_with ns n);
             off = ap (at_next (is_colon w)) later.2 ∙ off_append (is_colon w) later.0 ys it.off (list_off ys (note_begins w may ys n is));
           }
@@ -228,11 +232,11 @@ module _ (texts : List (List ℕ)) where
       let less : depth_of_notes (note_list notes) ≤ max (depth_of_notes (note_list notes)) (max (depth_of_type (typed base d.pieces)) (max (depth_of_optional_init init) 0)) = le-max_left _ _ in
       omega arith
 
-  declared_deep : (outer : List Name) (noted : List Token) (notes : List NoteTree) (s : Specified) (base : TypeTree) (ts : List Token) (ds : Declarations) → AreDeclared texts outer noted notes s base ts ds
+  declared_deep : (noted : List Token) (notes : List NoteTree) (s : Specified) (base : TypeTree) (ts : List Token) (ds : Declarations) → AreDeclared texts noted notes s base ts ds
       → suc (depth_of_notes (note_list notes)) ≤ depth_of_decls (decl_list ds.list)
-  declared_deep outer noted notes s base _ _ (first_declared _ _ _ (is_declared types xs js ys d init is judged inits)) =
+  declared_deep noted notes s base _ _ (first_declared _ _ _ (is_declared types xs js ys d init is judged inits)) =
       le_trans (decl_deep notes s base d init) (last_depth [] (declaration_of notes s base d init tree.NoStmt))
-  declared_deep outer noted notes s base _ _ (declared_behind _ _ c ds _ _ comma are (is_declared types xs js ys d init is judged inits)) =
+  declared_deep noted notes s base _ _ (declared_behind _ _ c ds _ _ comma are (is_declared types xs js ys d init is judged inits)) =
       le_trans (decl_deep notes s (again base) d init) (last_depth ds.list (declaration_of notes s (again base) d init tree.NoStmt))
 
   declarator_off : (types : List Name) (functions : Bool) (ts later : List Token) (d : Declarator) → IsDeclarator texts types functions false ts d → at_next (is_colon (reading texts [])) (ts ++ later) ≡ false
@@ -244,22 +248,32 @@ module _ (texts : List (List ℕ)) where
       go [] h = absurd (cc h)
       go (t ∷ ts) h = no_colon (reading texts types) t h
 
-  declared_off : (outer : List Name) (noted : List Token) (notes : List NoteTree) (s : Specified) (base : TypeTree) (ts : List Token) (ds : Declarations) → AreDeclared texts outer noted notes s base ts ds
+  declared_off : (noted : List Token) (notes : List NoteTree) (s : Specified) (base : TypeTree) (ts : List Token) (ds : Declarations) → AreDeclared texts noted notes s base ts ds
       → at_next (is_colon (reading texts [])) ts ≡ false
-  declared_off outer noted notes s base _ _ (first_declared _ _ _ (is_declared types xs js ys d init is judged inits)) = declarator_off types (functions_in s) xs (js ++ ys) d is
-  declared_off outer noted notes s base _ _ (declared_behind xs ys c ds d now comma are is) =
-      off_append (is_colon (reading texts [])) xs (c ∷ ys) (declared_off outer noted notes s base xs ds are) (mark_alone (reading texts []) mark.Comma mark.Colon c (mark_is (reading texts []) mark.Comma c comma) refl)
+  declared_off noted notes s base _ _ (first_declared _ _ _ (is_declared types xs js ys d init is judged inits)) = declarator_off types (functions_in s) xs (js ++ ys) d is
+  declared_off noted notes s base _ _ (declared_behind xs ys c ds d now comma are is) =
+      off_append (is_colon (reading texts [])) xs (c ∷ ys) (declared_off noted notes s base xs ds are) (mark_alone (reading texts []) mark.Comma mark.Colon c (mark_is (reading texts []) mark.Comma c comma) refl)
 
-  judged_off : (w : Lexicon) (b : Bearer) (noted : List Token) (notes : List NoteTree) (js : List Token) → IsJudged w b noted notes js → at_next (is_colon w) js ≡ false
-  judged_off w b noted notes _ (may_stand_there are) = refl
-  judged_off w b noted notes _ (is_pardoned t none h) = pardon_no_mark w mark.Colon t h
+  judged_off : (w : Lexicon) (function : Bool) (noted : List Token) (js : List Token) → IsJudged function noted js → at_next (is_colon w) js ≡ false
+  judged_off w function noted _ (may_stand_there are) = refl
+  judged_off w function noted _ (is_pardoned t none h) = pardon_no_mark w mark.Colon t h
 
   semicolon_off : (c : Token) → is_mark (reading texts []) mark.Semicolon c ≡ true → is_colon (reading texts []) c ≡ false
   semicolon_off c h = mark_alone (reading texts []) mark.Semicolon mark.Colon c (mark_is (reading texts []) mark.Semicolon c h) refl
 
   pub record NamedDeclaration (types : List Name) (o : Token) (rest : List Token) (depth : ℕ) : Type 0 where
     pub which : (is_type_name (reading texts types) o ≡ true) ⊎ ((a : Arguments) × (arguments_of (reading texts types) o ≡ Some a) × (is_nothing a ≡ false → 3 ≤ depth))
+    pub placed : is_misplaced (reading texts types) o ≡ false
     pub off : at_next (is_colon (reading texts types)) rest ≡ false
+
+  -- a typedef name is no annotation
+  type_placed : (types : List Name) (o : Token) → is_type_name (reading texts types) o ≡ true → is_misplaced (reading texts types) o ≡ false
+  type_placed types o h =
+      ap (λ b. is_some (if b then arguments_in (word_of texts o) else None) && not (may_stand (reading texts types) bearer.Function o))
+      (ap (λ b. is_some (name_of (reading texts types) o) && (not b && looks_like_note (word_of texts o))) h ∙ and_fails (is_some (name_of (reading texts types) o)) false refl)
+
+  note_placed : (types : List Name) (o : Token) → may_stand (reading texts types) bearer.Function o ≡ true → is_misplaced (reading texts types) o ≡ false
+  note_placed types o h = ap (λ b. is_listed (reading texts types) o && not b) h ∙ and_fails (is_listed (reading texts types) o) false refl
 
   module _ (types : List Name) (o : Token) (named : is_name (reading texts types) o ≡ true) where
     begun_named : (xs ys tail : List Token) (notes : List NoteTree) (s : Specified) (base : TypeTree) → Begins texts types xs ys notes s base → at_next (is_colon (reading texts [])) tail ≡ false
@@ -273,26 +287,27 @@ module _ (texts : List (List ℕ)) where
         by_type (inl none) = absurd (some none.0)
         by_type (inr later) =
             let it : Typed types o named later.0 = specifiers_named types o named seat.Scope (unspecified types) s ys refl b.are_specifiers later.0 later.1 in
-            record { which = inl it.type_name; off = ap (at_next (is_colon (reading texts types))) later.2 ∙ off_append (is_colon (reading texts [])) later.0 tail it.off off }
+            record { which = inl it.type_name; placed = type_placed types o it.type_name; off = ap (at_next (is_colon (reading texts types))) later.2 ∙ off_append (is_colon (reading texts [])) later.0 tail it.off off }
 
         by_split : ((xs ≡ []) × (ys ++ tail ≡ o ∷ rest)) ⊎ ((front : List Token) × (xs ≡ o ∷ front) × (rest ≡ front ++ (ys ++ tail))) → NamedDeclaration types o rest depth
         by_split (inl none) = by_type (in_two (reading texts types) ys tail o rest none.1)
         by_split (inr later) =
-            let it = notes_noted (reading texts types) _ xs notes b.are_notes o later.0 later.1 in
+            let it = notes_noted (reading texts types) (may_stand (reading texts types) bearer.Function) xs notes b.are_notes o later.0 later.1 in
             record {
               which = inr (it.kind, it.takes, λ k. let two : 2 ≤ depth_of_notes (note_list notes) = it.deep k in omega arith);
+              placed = note_placed types o it.stands;
               off = ap (at_next (is_colon (reading texts types))) later.2
                   ∙ off_append (is_colon (reading texts [])) later.0 (ys ++ tail) it.off (off_append (is_colon (reading texts [])) ys tail (specifiers_off seat.Scope (unspecified types) s ys b.are_specifiers) off);
             }
 
     pub declaration_named : (ts : List Token) (ds : Declarations) → IsDeclaration texts types ts ds → (rest : List Token) → ts ≡ o ∷ rest → NamedDeclaration types o rest (depth_of_decls (decl_list ds.list))
     declaration_named _ _ (is_nameless _ xs ys js c notes s base b judged ends) rest split =
-        begun_named xs ys (js ++ (c ∷ [])) notes s base b (off_append (is_colon (reading texts [])) js (c ∷ []) (judged_off (reading texts types) _ xs notes js judged) (semicolon_off c ends))
+        begun_named xs ys (js ++ (c ∷ [])) notes s base b (off_append (is_colon (reading texts [])) js (c ∷ []) (judged_off (reading texts types) false xs js judged) (semicolon_off c ends))
         (depth_of_decls (decl_list (tree.Decl (note_list notes) (storage_of s) base None (place_of_base base) tree.NoInit tree.NoStmt ∷ [])))
         (le_trans (decl_deep notes s base (record { pieces = []; name = None; inner = types }) tree.NoInit) (last_depth [] (tree.Decl (note_list notes) (storage_of s) base None (place_of_base base) tree.NoInit tree.NoStmt))) rest split
     declaration_named _ _ (is_declaration _ xs ys zs c notes s base ds b are ends) rest split =
-        begun_named xs ys (zs ++ (c ∷ [])) notes s base b (off_append (is_colon (reading texts [])) zs (c ∷ []) (declared_off types xs notes s base zs ds are) (semicolon_off c ends)) (depth_of_decls (decl_list ds.list))
-        (declared_deep types xs notes s base zs ds are) rest split
+        begun_named xs ys (zs ++ (c ∷ [])) notes s base b (off_append (is_colon (reading texts [])) zs (c ∷ []) (declared_off xs notes s base zs ds are) (semicolon_off c ends)) (depth_of_decls (decl_list ds.list))
+        (declared_deep xs notes s base zs ds are) rest split
 
     -- a declaration is more than one token
     long_list : (xs ys tail : List Token) (c : Token) → (ys ≡ [] → ⊥) → xs ++ (ys ++ (tail ++ (c ∷ []))) ≡ o ∷ [] → ⊥

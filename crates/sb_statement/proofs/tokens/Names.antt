@@ -22,12 +22,12 @@ use Rattle.sb_parse.proofs.Ways.{and_first, and_second}
 use Rattle.sb_sal.specs.declared.bearer.Bearer.TheVariants as bearer
 use Rattle.sb_sign.specs.declared.spelling.Arguments.{Arguments}
 use Rattle.sb_sign.specs.declared.spelling.Arguments.TheVariants as arguments
-use Rattle.sb_sal.specs.Notes.{anywhere, IsNote, is_bare, has_arguments, AreNotes, no_notes, more_notes}
+use Rattle.sb_sal.specs.Notes.{IsNote, is_bare, has_arguments, AreNotes, no_notes, more_notes}
 use Rattle.sb_sal.specs.Readers as reader
 use Rattle.sb_sal.specs.Readers.{is_nothing, note_reader}
 use Rattle.sb_sal.specs.Spellings.{begins_note, arguments_of, is_listed, is_unlisted, may_stand}
 use Rattle.sb_sal.proofs.Annotations.{note_at}
-use Rattle.sb_sal.proofs.Filled.{anywhere_filled}
+use Rattle.sb_sal.proofs.Filled.{filled}
 use Rattle.sb_sal.proofs.Noting.{some_note, enclosed}
 use Rattle.sb_sal.proofs.Tokens.{open_token, open_token_is, has_arguments_of, bare_by}
 use Rattle.sb_specifier.specs.declared.seat.Seat.TheVariants as seat
@@ -35,9 +35,10 @@ use Rattle.sb_specifier.specs.Specified.{reading, Specified, unspecified, saying
 use Rattle.sb_specifier.specs.Declaration.{is_word, is_defined, no_specifiers, more_specifiers}
 use Rattle.sb_declare.specs.Declaration.{may_stand_there, is_pardoned, IsDeclaration, is_nameless}
 use Rattle.sb_declare.specs.Reads.{FitsDeclaration}
+use Rattle.sb_declare.specs.Readers.{all_stand}
 use Rattle.sb_specifier.specs.Readers.{Declarations, is_pardon, is_name, is_specifier_word, is_storage_keyword, begins_declaration}
 use Rattle.sb_specifier.proofs.laws.Names.{name_is}
-use Rattle.sb_statement.specs.Readers.{names_declaration, room_for}
+use Rattle.sb_statement.specs.Readers.{names_declaration, room_for, is_misplaced}
 use Rattle.sb_statement.proofs.laws.Expressions.{semicolon_token, semicolon_token_is}
 
 -- what pardons annotations
@@ -48,18 +49,17 @@ pardon_token_is : is_pardon pardon_token ≡ true
 unfolding pardon_token
 pardon_token_is = refl
 
--- no annotation stands on other objects
-none_stands : (w : Lexicon) (ts : List Token) (n : NoteTree) → IsNote w (may_stand w bearer.Object) ts n → ⊥
-none_stands w _ _ (is_bare _ t stands nothing) = let both : false ≡ true = stands in cc both
-none_stands w _ _ (has_arguments _ t o c a ts args stands takes opens closes are) = let both : false ≡ true = stands in cc both
-
-none_stand : (w : Lexicon) (ts : List Token) (ns : List NoteTree) → AreNotes w (may_stand w bearer.Object) ts ns → (n : NoteTree) → ns ≡ n ∷ [] → ⊥
-none_stand w _ _ no_notes n e = cc e
-none_stand w _ _ (more_notes xs ys ns m are is) n e = none_stands w ys m is
-
 nothing_alone : (a : Arguments) → is_nothing a ≡ true → a ≡ arguments.Nothing
 nothing_alone arguments.Nothing h = refl
 nothing_alone _ h = absurd (cc h)
+
+-- a listed word that is not misplaced may stand there
+pub stands_there : (w : Lexicon) (t : Token) → is_listed w t ≡ true → is_misplaced w t ≡ false → may_stand w bearer.Function t ≡ true
+stands_there w t listed placed = by_test (may_stand w bearer.Function t) (sym (ap (λ b. b && not (may_stand w bearer.Function t)) listed) ∙ placed)
+  where
+    by_test : (b : Bool) → not b ≡ false → b ≡ true
+    by_test true h = refl
+    by_test false h = absurd (cc h)
 
 pub two_at_least : (b : Bool) → 2 ≤ (if b then 3 else 2)
 two_at_least true = omega arith
@@ -87,7 +87,7 @@ module _ (texts : List (List ℕ)) (types : List Name) (below : ℕ) where
             are_specifiers = more_specifiers seat.Scope (unspecified types) (saying (Whole (tree.Defined o.text o.place)) (unspecified types)) (saying (Whole (tree.Defined o.text o.place)) (unspecified types)) (o ∷ []) [] (is_defined seat.Scope (unspecified types) o h refl)
                 (no_specifiers seat.Scope (saying (Whole (tree.Defined o.text o.place)) (unspecified types)));
             names = refl;
-          }) (may_stand_there no_notes) (semicolon_token_is w),
+          }) (may_stand_there refl) (semicolon_token_is w),
           some,
         );
       }
@@ -99,7 +99,7 @@ module _ (texts : List (List ℕ)) (types : List Name) (below : ℕ) where
   int_type = tree.Base 7 int_token.place
 
   -- an annotation, `int` and what pardons the annotation
-  by_note : (ts : List Token) (n : NoteTree) (o : Token) (rest : List Token) → ts ≡ o ∷ rest → IsNote w anywhere ts n → suc (depth_of_note n) ≤ below → BeginsSome o
+  by_note : (ts : List Token) (n : NoteTree) (o : Token) (rest : List Token) → ts ≡ o ∷ rest → IsNote w (may_stand w bearer.Function) ts n → suc (depth_of_note n) ≤ below → BeginsSome o
   unfolding int_said int_type
   by_note ts n o rest split is le =
       let one : 1 ≤ depth_of_note n = some_note n in
@@ -118,31 +118,31 @@ module _ (texts : List (List ℕ)) (types : List Name) (below : ℕ) where
                 are_notes = more_notes [] ts [] n no_notes is;
                 are_specifiers = more_specifiers seat.Scope (unspecified types) int_said int_said (int_token ∷ []) [] (is_word seat.Scope (unspecified types) int_token keyword.Int int_said.said (int_token_is w) refl) (no_specifiers seat.Scope int_said);
                 names = refl;
-              }) (is_pardoned pardon_token (λ are. none_stand w ts (n ∷ []) are n refl) pardon_token_is) (semicolon_token_is w)),
+              }) (is_pardoned pardon_token (ap (all_stand false) split) pardon_token_is) (semicolon_token_is w)),
           max-le whole zero_fits,
         );
       }
 
   -- an annotation with this name
-  by_kind : (o : Token) (a : Arguments) → arguments_of w o ≡ Some a → (is_nothing a ≡ true → 2 ≤ below) → (is_nothing a ≡ false → 3 ≤ below) → BeginsSome o
-  by_kind o a takes flat deep = by_test (is_nothing a) refl
+  by_kind : (o : Token) (a : Arguments) → may_stand w bearer.Function o ≡ true → arguments_of w o ≡ Some a → (is_nothing a ≡ true → 2 ≤ below) → (is_nothing a ≡ false → 3 ≤ below) → BeginsSome o
+  by_kind o a stands takes flat deep = by_test (is_nothing a) refl
     where
       by_test : (b : Bool) → is_nothing a ≡ b → BeginsSome o
-      by_test true h = by_note (o ∷ []) (tree.Note o.text tree.NoArgs o.place) o [] refl (is_bare anywhere o refl (takes ∙ ap Some (nothing_alone a h))) (flat h)
+      by_test true h = by_note (o ∷ []) (tree.Note o.text tree.NoArgs o.place) o [] refl (is_bare (may_stand w bearer.Function) o stands (takes ∙ ap Some (nothing_alone a h))) (flat h)
       by_test false h =
-          let inside = (enclosed w 1 (note_reader w 1) anywhere (λ m G. note_at w 1 m G) (anywhere_filled w) o a (omega arith) refl takes h).law.some in
+          let inside = (enclosed w 1 (note_reader w 1) (may_stand w bearer.Function) (λ m G. note_at w 1 m G) (filled w bearer.Function) o a (omega arith) stands takes h).law.some in
           let less : depth_of_args (arg_list inside.1) ≤ 1 = inside.2.deep in
           let enough : 3 ≤ below = deep h in
           by_note (o ∷ (open_token ∷ (inside.0 ++ (close_token ∷ [])))) (tree.Note o.text (arg_list inside.1) o.place) o (open_token ∷ (inside.0 ++ (close_token ∷ []))) refl
-          (has_arguments anywhere o open_token close_token a inside.0 inside.1 refl takes (open_token_is w) (close_token_is w) inside.2.are) (omega arith)
+          (has_arguments (may_stand w bearer.Function) o open_token close_token a inside.0 inside.1 stands takes (open_token_is w) (close_token_is w) inside.2.are) (omega arith)
 
   pub name_specifies_none : (o : Token) → is_name w o ≡ true → is_specifier_word w o ≡ false
   name_specifies_none o h =
       let n = name_is w o h in
       ap (λ z. option_map_or is_type_keyword z false || option_map_or is_storage_keyword z false) (name_no_keyword w n.0 o n.1)
 
-  pub begins_some : (o : Token) → names_declaration w o ≡ true → is_unlisted w o ≡ false → nat_lt below (room_for w o) ≡ false → BeginsSome o
-  begins_some o names listed room = by_word (is_specifier_word w o) refl (and_first (begins_declaration w o) (is_name w o) names)
+  pub begins_some : (o : Token) → names_declaration w o ≡ true → is_unlisted w o ≡ false → is_misplaced w o ≡ false → nat_lt below (room_for w o) ≡ false → BeginsSome o
+  begins_some o names listed placed room = by_word (is_specifier_word w o) refl (and_first (begins_declaration w o) (is_name w o) names)
     where
       enough : room_for w o ≤ below
       enough = within_room below (room_for w o) room
@@ -160,7 +160,7 @@ module _ (texts : List (List ℕ)) (types : List Name) (below : ℕ) where
       with_arguments : begins_note w o ≡ true → BeginsSome o
       with_arguments h =
           let a = has_arguments_of w o (is_in_list h) in
-          by_kind o a.0 a.1 (λ flat. some) (λ nested. subst (λ b. (if b then 3 else 2) ≤ below) (ap (λ b. b && not (reader.is_bare w o)) (is_in_list h) ∙ ap not (bare_by w o a.0 a.1 ∙ nested)) enough)
+          by_kind o a.0 (stands_there w o (is_in_list h) placed) a.1 (λ flat. some) (λ nested. subst (λ b. (if b then 3 else 2) ≤ below) (ap (λ b. b && not (reader.is_bare w o)) (is_in_list h) ∙ ap not (bare_by w o a.0 a.1 ∙ nested)) enough)
 
       by_word : (b : Bool) → is_specifier_word w o ≡ b → (b || (is_type_name w o || begins_note w o)) ≡ true → BeginsSome o
       by_word true k h = absurd (let both : true ≡ false = sym k ∙ name_specifies_none o (and_second (begins_declaration w o) (is_name w o) names) in cc both)

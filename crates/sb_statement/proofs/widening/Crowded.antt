@@ -11,6 +11,7 @@ use Rattle.sb_lexicon.specs.Tokens.{unexpected, too_deep, bad_arguments, is_zero
 use Rattle.sb_parse.proofs.Ways.{and_fails}
 use Rattle.sb_sal.specs.declared.bearer.Bearer.TheVariants as bearer
 use Rattle.sb_sal.specs.Readers.{Head, is_bare, note, note_reader, next_note, notes_reader, in_parentheses, applied, bare, lacking}
+use Rattle.sb_statement.specs.Readers.{is_misplaced}
 use Rattle.sb_sal.specs.Spellings.{begins_note, is_listed, is_unlisted, may_stand}
 use Rattle.sb_sal.proofs.Tokens.{listed_begins, has_arguments_of, bare_listed}
 use Rattle.sb_specifier.specs.declared.seat.Seat.TheVariants as seat
@@ -55,17 +56,14 @@ module _ (w : Lexicon) (left : ℕ) (may : Token → Bool) where
       by_test IH true = go IH (note_reader w left may ts)
       by_test IH false = refl
 
--- ---- the first annotation, which may stand anywhere
+-- ---- the first annotation, which may stand on functions
 
-module _ (w : Lexicon) (k : ℕ) (t : Token) (ts : List Token) (listed : is_listed w t ≡ true) where
+module _ (w : Lexicon) (k : ℕ) (t : Token) (ts : List Token) (listed : is_listed w t ≡ true) (placed : is_misplaced w t ≡ false) where
   abbrev may : Token → Bool
-  may = may_stand w bearer.Any
+  may = may_stand w bearer.Function
 
   unlisted_off : is_unlisted w t ≡ false
   unlisted_off = and_fails (begins_note w t) (not (is_listed w t)) (ap not listed)
-
-  placed : (is_listed w t && not (may t)) ≡ false
-  placed = and_fails (is_listed w t) false refl
 
   bare_read : is_bare w t ≡ true → (o : Outcome Token NoteTree) → (if at_next (is_open w) ts then stop bad_arguments (length ts) else done (tree.Note t.text tree.NoArgs t.place) ts) ≡ o → note_reader w (suc k) may (t ∷ ts) ≡ o
   unfolding note_reader note bare
@@ -125,7 +123,7 @@ module _ (texts : List (List ℕ)) (types : List Name) (below : ℕ) (part : ℕ
       (declarator_in texts below part o o.specified.types o.base o.count >>= rest_of_declaration texts below part o)
 
   abbrev notes_of : Parser Token (List NoteTree)
-  notes_of = notes_reader w below (may_stand w bearer.Any)
+  notes_of = notes_reader w below (may_stand w bearer.Function)
 
   pub stops_in_notes : (ts : List Token) (i l : ℕ) → notes_of ts ≡ stop i l → declaration_at texts below part types ts ≡ stop i l
   unfolding declaration_at opening
@@ -145,7 +143,7 @@ module _ (texts : List (List ℕ)) (types : List Name) (below : ℕ) (part : ℕ
 
 -- ---- behind an annotation without arguments
 
-module _ (A : Type 0) (texts : List (List ℕ)) (types : List Name) (k : ℕ) (part : ℕ → declaring.Parts) (t : Token) (ts : List Token) (is : is_bare (reading texts types) t ≡ true) where
+module _ (A : Type 0) (texts : List (List ℕ)) (types : List Name) (k : ℕ) (part : ℕ → declaring.Parts) (t : Token) (ts : List Token) (is : is_bare (reading texts types) t ≡ true) (placed : is_misplaced (reading texts types) t ≡ false) where
   abbrev listed : is_listed (reading texts types) t ≡ true
   listed = bare_listed (reading texts types) t is
 
@@ -157,28 +155,28 @@ module _ (A : Type 0) (texts : List (List ℕ)) (types : List Name) (k : ℕ) (p
   behind_bare = by_open (at_next (is_open (reading texts types)) ts) refl
     where
       reads : (b : Bool) → at_next (is_open (reading texts types)) ts ≡ b
-          → note_reader (reading texts types) (suc k) (may_stand (reading texts types) bearer.Any) (t ∷ ts) ≡ (if b then stop bad_arguments (length ts) else done a_note ts)
-      reads b h = bare_read (reading texts types) k t ts listed is _ (ap (λ b. if b then stop bad_arguments (length ts) else done a_note ts) h)
+          → note_reader (reading texts types) (suc k) (may_stand (reading texts types) bearer.Function) (t ∷ ts) ≡ (if b then stop bad_arguments (length ts) else done a_note ts)
+      reads b h = bare_read (reading texts types) k t ts listed placed is _ (ap (λ b. if b then stop bad_arguments (length ts) else done a_note ts) h)
 
       by_case : at_next (is_open (reading texts types)) ts ≡ false → Begun A texts types (suc k) part seat.Scope ts → Alike {A = A} (barred (reading texts types) seat.Scope ts) (declaration_at texts (suc k) part types (t ∷ ts))
       by_case h (needs e) = deep (length ts) e
       by_case h (in_notes i e noted) =
           stops i (length ts) e (stops_in_notes texts types (suc k) part (t ∷ ts) i (length ts)
-          (notes_go_on (reading texts types) k t ts listed a_note (reads false h) ∙ ap (behind_notes (reading texts types) (suc k) (may_stand (reading texts types) bearer.Any) (a_note ∷ [])) noted))
+          (notes_go_on (reading texts types) k t ts listed placed a_note (reads false h) ∙ ap (behind_notes (reading texts types) (suc k) (may_stand (reading texts types) bearer.Function) (a_note ∷ [])) noted))
       by_case h (in_specifiers i e noted said) =
           stops i (length ts) e (stops_in_specifiers texts types (suc k) part (t ∷ ts) ts (a_note ∷ []) i (length ts)
-          (notes_go_on (reading texts types) k t ts listed a_note (reads false h) ∙ ap (behind_notes (reading texts types) (suc k) (may_stand (reading texts types) bearer.Any) (a_note ∷ [])) noted) said)
+          (notes_go_on (reading texts types) k t ts listed placed a_note (reads false h) ∙ ap (behind_notes (reading texts types) (suc k) (may_stand (reading texts types) bearer.Function) (a_note ∷ [])) noted) said)
 
       by_open : (b : Bool) → at_next (is_open (reading texts types)) ts ≡ b → Alike {A = A} (if b then stop bad_arguments (length ts) else barred (reading texts types) seat.Scope ts) (declaration_at texts (suc k) part types (t ∷ ts))
-      by_open true h = stops bad_arguments (length ts) refl (stops_in_notes texts types (suc k) part (t ∷ ts) bad_arguments (length ts) (notes_stop (reading texts types) k t ts listed bad_arguments (length ts) (reads true h)))
+      by_open true h = stops bad_arguments (length ts) refl (stops_in_notes texts types (suc k) part (t ∷ ts) bad_arguments (length ts) (notes_stop (reading texts types) k t ts listed placed bad_arguments (length ts) (reads true h)))
       by_open false h = by_case h (begun A texts types (suc k) part seat.Scope ts)
 
 -- ---- behind an annotation with arguments
 
 pub behind_applied : (A : Type 0) (texts : List (List ℕ)) (types : List Name) (k : ℕ) (part : ℕ → declaring.Parts) (t : Token) (ts : List Token)
-    → is_zero k ≡ false → is_listed (reading texts types) t ≡ true → is_bare (reading texts types) t ≡ false
+    → is_zero k ≡ false → is_listed (reading texts types) t ≡ true → is_misplaced (reading texts types) t ≡ false → is_bare (reading texts types) t ≡ false
     → Alike {A = A} (choose (is_open (reading texts types)) (refuse too_deep) (choose (λ s. true) (refuse bad_arguments) (refuse unexpected)) ts) (declaration_at texts (suc k) part types (t ∷ ts))
-behind_applied A texts types k part t ts some note is = by_open (at_next (is_open (reading texts types)) ts) refl
+behind_applied A texts types k part t ts some note placed is = by_open (at_next (is_open (reading texts types)) ts) refl
   where
     numbered : {B : Type 0} (b : Bool) → at_next (λ s. true) ts ≡ b
         → Path (Outcome Token B) (if at_next (λ s. true) ts then stop bad_arguments (length ts) else stop unexpected (length ts)) (stop (if b then bad_arguments else unexpected) (length ts))
@@ -191,4 +189,4 @@ behind_applied A texts types k part t ts some note is = by_open (at_next (is_ope
     by_open false h =
         stops (if at_next (λ s. true) ts then bad_arguments else unexpected) (length ts) (numbered {B = A} (at_next (λ s. true) ts) refl)
         (stops_in_notes texts types (suc k) part (t ∷ ts) _ (length ts)
-        (notes_stop (reading texts types) k t ts note _ (length ts) (applied_read (reading texts types) k t ts note some is h ∙ numbered {B = NoteTree} (at_next (λ s. true) ts) refl)))
+        (notes_stop (reading texts types) k t ts note placed _ (length ts) (applied_read (reading texts types) k t ts note placed some is h ∙ numbered {B = NoteTree} (at_next (λ s. true) ts) refl)))

@@ -21,7 +21,7 @@ use Rattle.sb_sal.specs.Readers.{notes_reader}
 use Rattle.sb_sal.specs.Spellings.{may_stand}
 use Rattle.sb_sal.proofs.NoteWider.{no_notes}
 use Rattle.sb_specifier.specs.declared.seat.Seat.TheVariants as seat
-use Rattle.sb_specifier.specs.Specified.{reading, Specified, unspecified, saying, base_of, declares_function, bearer_of}
+use Rattle.sb_specifier.specs.Specified.{reading, Specified, unspecified, saying, base_of, declares_function}
 use Rattle.sb_specifier.specs.Readers.{Parts, completed, Declarator, is_semicolon, is_name, name_at, is_storage_keyword, is_specifier_word, ends_nameless, specified, keyword_specifiers, defined, specifiers, names_type}
 use Rattle.sb_declarator.specs.Readers as declaring
 use Rattle.sb_declare.specs.Readers.{judged, nameless_of, Opening, nameless, declarator_in, rest_of_declaration, declaration_at}
@@ -96,8 +96,8 @@ module _ (texts : List (List ℕ)) (types : List Name) (k : ℕ) (part : ℕ →
   unfolding keyword_specifiers loop
   one_more u us i l h e = first_so _ _ _ _ h (ap (λ o. and_then o (loop (is_specifier_word (reading texts [])) (specified texts seat.Scope (suc k) part) (length us))) e)
 
-  unnoted : (ts : List Token) → notes_reader w (suc k) (may_stand w bearer.Any) (t ∷ ts) ≡ done [] (t ∷ ts)
-  unnoted ts = no_notes w (suc k) (may_stand w bearer.Any) (t ∷ ts) (no_note (is_some (name_of w t)) (is_type_name w t) _ is)
+  unnoted : (ts : List Token) → notes_reader w (suc k) (may_stand w bearer.Function) (t ∷ ts) ≡ done [] (t ∷ ts)
+  unnoted ts = no_notes w (suc k) (may_stand w bearer.Function) (t ∷ ts) (no_note (is_some (name_of w t)) (is_type_name w t) _ is)
     where
       no_note : (a b c : Bool) → b ≡ true → (a && (not b && c)) ≡ false
       no_note true true c h = refl
@@ -116,7 +116,7 @@ module _ (texts : List (List ℕ)) (types : List Name) (k : ℕ) (part : ℕ →
     opened_so noted shown = record { outer = types; notes = []; noted = noted; specified = so_far; base = base; count = length shown }
 
     abbrev judging : List Token → Declarator × List Token → Parser Token Declarator
-    judging shown d = judged texts (suc k) part (opened_so [] shown) (bearer_of (declares_function d.0.pieces)) (length shown + length d.1) d.0
+    judging shown d = judged texts (suc k) part (opened_so [] shown) (declares_function d.0.pieces) (length shown + length d.1) d.0
 
     declarator_stops : (shown : List Token) → declarator_in texts (suc k) part (opened_so [] shown) types base (length shown) ts ≡ stop unexpected (length ts)
     unfolding declarator_in

@@ -9,7 +9,7 @@ use Rattle.sb_tree.specs.Trees as tree
 use Rattle.sb_tree.specs.Trees.{depth_of_decls}
 use Rattle.sb_lexicon.specs.Tokens.{too_deep}
 use Rattle.sb_lexicon.specs.Outcomes.{GoesOn}
-use Rattle.sb_sal.proofs.Deepening.{Shrinks, Deepens, still_pure, in_order, choosing, turning, shrinks_then, shrinks_choose}
+use Rattle.sb_sal.proofs.Deepening.{Deepens, still_pure, in_order, choosing, turning}
 use Rattle.sb_sal.proofs.Lowered.{raised, same_from}
 use Rattle.sb_sal.proofs.SomeDepth.{at_some_depth}
 use Rattle.sb_declare.specs.Readers as declaring
@@ -18,8 +18,7 @@ use Rattle.sb_specifier.specs.Readers.{place_of_base, Declarations, Declarator, 
 use Rattle.sb_declare.specs.Readers.{Opening}
 use Rattle.sb_declarator.specs.Readers.{parts}
 use Rattle.sb_specifier.specs.Specified.{reading}
-use Rattle.sb_declare.proofs.widening.Declarations.{IsNoted}
-use Rattle.sb_declare.proofs.deepening.Declarations.{opening_deepens_then, declarator_in_shrinks, rest_shrinks, nameless_shrinks, declarator_in_deepens, rest_deepens, nameless_deepens}
+use Rattle.sb_declare.proofs.deepening.Declarations.{opening_deepens_then, declarator_in_deepens, rest_deepens, nameless_deepens}
 use Rattle.sb_initialiser.proofs.deepening.Initialisers.{initialiser_deepens}
 use Rattle.sb_declare.proofs.deepening.Readers.{scope_specifiers, scope_declarators}
 use Rattle.sb_unit.specs.Readers.{defines, defined, external_behind, external, unit_reader}
@@ -57,38 +56,24 @@ module _ (texts : List (List ℕ)) where
 
     -- ---- what follows an opening
 
-    behind_shrinks : (d : Declarator × ℕ) (m : ℕ) → n ≤ m → Shrinks (external_behind texts m o d)
-    unfolding external_behind
-    behind_shrinks d m le =
-        shrinks_choose _ (defined texts m o d) (declaring.rest_of_declaration texts m (parts texts m) o d) ((defined_deepens d).shrinks m le)
-        (rest_shrinks texts n (parts texts) (scope_specifiers texts n) (scope_declarators texts n) (Initial n) o d m le)
-
     -- a declaration without a name, or declarators
     abbrev after : List Name → ℕ → Parser Token Declarations
     after types m = choose (ends_nameless (reading texts types)) (declaring.nameless texts m (parts texts m) o (place_of_base o.base))
         (declaring.declarator_in texts m (parts texts m) o o.specified.types o.base o.count >>= external_behind texts m o)
 
-    after_shrinks : (types : List Name) (m : ℕ) → n ≤ m → Shrinks (after types m)
-    after_shrinks types m le =
-        shrinks_choose _ (declaring.nameless texts m (parts texts m) o (place_of_base o.base)) _
-        (nameless_shrinks texts n (parts texts) (scope_specifiers texts n) (scope_declarators texts n) (Initial n) o (place_of_base o.base) m le)
-        (shrinks_then (declaring.declarator_in texts m (parts texts m) o o.specified.types o.base o.count) (external_behind texts m o)
-        (declarator_in_shrinks texts n (parts texts) (scope_specifiers texts n) (scope_declarators texts n) (Initial n) o o.specified.types o.base o.count m le) (λ d. behind_shrinks d m le))
+    behind_deepens : (d : Declarator × ℕ) → Deepens n (λ m. external_behind texts m o d)
+    unfolding external_behind
+    behind_deepens d =
+        choosing n (defines texts n d.0) (λ m. defined texts m o d) (λ m. declaring.rest_of_declaration texts m (parts texts m) o d) (defined_deepens d)
+        (rest_deepens texts n (parts texts) (scope_specifiers texts n) (scope_declarators texts n) (Initial n) o d)
 
-    module _ (noted : IsNoted texts n o) where
-      behind_deepens : (d : Declarator × ℕ) → Deepens n (λ m. external_behind texts m o d)
-      unfolding external_behind
-      behind_deepens d =
-          choosing n (defines texts n d.0) (λ m. defined texts m o d) (λ m. declaring.rest_of_declaration texts m (parts texts m) o d) (defined_deepens d)
-          (rest_deepens texts n (parts texts) (scope_specifiers texts n) (scope_declarators texts n) (Initial n) o noted d)
-
-      after_deepens : (types : List Name) → Deepens n (λ m. after types m)
-      after_deepens types =
-          choosing n (ends_nameless (reading texts types)) (λ m. declaring.nameless texts m (parts texts m) o (place_of_base o.base))
-          (λ m. declaring.declarator_in texts m (parts texts m) o o.specified.types o.base o.count >>= external_behind texts m o)
-          (nameless_deepens texts n (parts texts) (scope_specifiers texts n) (scope_declarators texts n) (Initial n) o noted (place_of_base o.base))
-          (in_order n (λ m. declaring.declarator_in texts m (parts texts m) o o.specified.types o.base o.count) (λ m. external_behind texts m o)
-          (declarator_in_deepens texts n (parts texts) (scope_specifiers texts n) (scope_declarators texts n) (Initial n) o noted o.specified.types o.base o.count) behind_deepens)
+    after_deepens : (types : List Name) → Deepens n (λ m. after types m)
+    after_deepens types =
+        choosing n (ends_nameless (reading texts types)) (λ m. declaring.nameless texts m (parts texts m) o (place_of_base o.base))
+        (λ m. declaring.declarator_in texts m (parts texts m) o o.specified.types o.base o.count >>= external_behind texts m o)
+        (nameless_deepens texts n (parts texts) (scope_specifiers texts n) (scope_declarators texts n) (Initial n) o (place_of_base o.base))
+        (in_order n (λ m. declaring.declarator_in texts m (parts texts m) o o.specified.types o.base o.count) (λ m. external_behind texts m o)
+        (declarator_in_deepens texts n (parts texts) (scope_specifiers texts n) (scope_declarators texts n) (Initial n) o o.specified.types o.base o.count) behind_deepens)
 
   -- ---- declarations outside of functions, and units
 
@@ -97,7 +82,7 @@ module _ (texts : List (List ℕ)) where
   external_deepens n ds =
       in_order n _ _
       (opening_deepens_then texts n (parts texts) (scope_specifiers texts n) (scope_declarators texts n) (Initial n) ds.types
-      (λ m o. after n o ds.types m) (λ o noted. after_deepens n o noted ds.types) (λ m le o. after_shrinks n o ds.types m le))
+      (λ m o. after n o ds.types m) (λ o. after_deepens n o ds.types))
       (λ new. still_pure n _)
 
   units_deepen : (n : ℕ) → Deepens (suc n) (reader_of texts)

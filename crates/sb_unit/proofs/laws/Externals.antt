@@ -18,8 +18,7 @@ use Rattle.sb_lexicon.specs.Tokens.{is_open_brace}
 use Rattle.sb_operand.specs.Pieces.{typed}
 use Rattle.sb_lexicon.proofs.Lexemes.{mark_is, mark_alone}
 use Rattle.sb_parse.proofs.Ways.{and_first, and_fails}
-use Rattle.sb_sal.specs.declared.bearer.Bearer.TheVariants as bearer
-use Rattle.sb_specifier.specs.Specified.{reading, declares_function, bearer_of}
+use Rattle.sb_specifier.specs.Specified.{reading, declares_function}
 use Rattle.sb_declare.specs.Declaration.{IsJudged, no_initialiser, an_initialiser, declared_by, declaration_of}
 use Rattle.sb_declare.specs.Readers as declaring
 use Rattle.sb_specifier.specs.Readers.{place_of_base, Declarator, Declarations, ends_nameless}
@@ -195,9 +194,8 @@ module _ (texts : List (List ℕ)) (below : ℕ) (some : 1 ≤ below) (types : L
               let text : f.noted ++ (f.specified ++ (k.first.front ++ (k.first.judged ++ k.after))) ≡ ts =
               sym (split ∙ ap (λ l. l ++ j.after) f.split ∙ append_assoc f.noted f.specified j.after
               ∙ ap (λ l. f.noted ++ (f.specified ++ l)) (k.split ∙ ap (λ l. l ++ k.after) k.first.split ∙ append_assoc k.first.front k.first.judged k.after)) in
-              let judged_is : IsJudged (reading texts types) bearer.Function f.noted o.notes k.first.judged =
-              subst₂ (λ a c. IsJudged (reading texts a) bearer.Function c o.notes k.first.judged) f.outer_is f.noted_is
-              (subst (λ c. IsJudged (reading texts o.outer) (bearer_of c) o.noted o.notes k.first.judged) b.0 k.first.judged_is) in
+              let judged_is : IsJudged true f.noted k.first.judged =
+              subst (λ c. IsJudged true c k.first.judged) f.noted_is (subst (λ c. IsJudged c o.noted k.first.judged) b.0 k.first.judged_is) in
               let body : IsBlock texts false (declared_by o.specified k.value.0.name k.value.0.inner) k.after m.value =
               subst (λ z. IsBlock texts false z k.after m.value) (declared_is texts below (parts texts below) o k.value.0.name k.value.0.inner) m.is.0 in
               let value : record { list = declaration_of o.notes o.specified o.base k.value.0 tree.NoInit (tree.AStmt m.value) ∷ []; types = declared_by o.specified k.value.0.name o.specified.types } ≡ ds =
@@ -247,7 +245,7 @@ module _ (texts : List (List ℕ)) (below : ℕ) (some : 1 ≤ below) (types : L
             judged = js;
             split = refl;
             is = record { is = is; count = room.1; sizes = room.2 };
-            judged_is = subst (λ c. IsJudged (reading texts types) (bearer_of c) xs notes js) (sym function) judged;
+            judged_is = subst (λ c. IsJudged c xs js) (sym function) judged;
             count_is = refl;
           };
           second = inl (

@@ -18,7 +18,7 @@ use Rattle.sb_specifier.specs.Readers.{specifiers, place_of_base, Declarations, 
 use Rattle.sb_declare.specs.Readers.{Opening}
 use Rattle.sb_declarator.specs.Readers.{parts}
 use Rattle.sb_specifier.specs.Specified.{reading}
-use Rattle.sb_declare.proofs.widening.Declarations.{IsNoted, opening_then, declarator_in_wider, rest_wider, nameless_wider}
+use Rattle.sb_declare.proofs.widening.Declarations.{opening_then, declarator_in_wider, rest_wider, nameless_wider}
 use Rattle.sb_declare.proofs.widening.Each.{each_specifiers, each_declarator}
 use Rattle.sb_initialiser.proofs.widening.Initialisers.{initialiser_wider}
 use Rattle.sb_unit.specs.Readers.{defines, defined, external_behind, external, unit_reader}
@@ -56,13 +56,13 @@ module _ (texts : List (List ℕ)) (n m : ℕ) (le : n ≤ m) where
   abbrev Specifiers : (types : List Name) → Wider (specifiers texts seat.Scope n (parts texts n) types) (specifiers texts seat.Scope m (parts texts m) types)
   Specifiers = each_specifiers texts seat.Scope n m le
 
-  module _ (o : Opening) (noted : IsNoted texts n o) where
+  module _ (o : Opening) where
     behind_wider : (d : Declarator × ℕ) → Wider (external_behind texts n o d) (external_behind texts m o d)
     unfolding external_behind
     behind_wider d = choosing (defines texts n d.0) _ _ _ _ (defined_wider o d) (rest_there d)
       where
         rest_there : (d : Declarator × ℕ) → Wider (declaring.rest_of_declaration texts n (parts texts n) o d) (declaring.rest_of_declaration texts m (parts texts m) o d)
-        rest_there d = rest_wider texts n m le (parts texts n) (parts texts m) Specifiers (λ types functions. each_declarator texts types functions false n m le) (λ types. initialiser_wider (reading texts types) n m le) o noted d
+        rest_there d = rest_wider texts n m le (parts texts n) (parts texts m) Specifiers (λ types functions. each_declarator texts types functions false n m le) (λ types. initialiser_wider (reading texts types) n m le) o d
 
     abbrev after : List Name → ℕ → Parser Token Declarations
     after types k = choose (ends_nameless (reading texts types)) (declaring.nameless texts k (parts texts k) o (place_of_base o.base))
@@ -72,11 +72,11 @@ module _ (texts : List (List ℕ)) (n m : ℕ) (le : n ≤ m) where
     after_wider types =
         choosing (ends_nameless (reading texts types)) _ _ _ _
         (nameless_wider texts n m le (parts texts n) (parts texts m) Specifiers (λ types functions. each_declarator texts types functions false n m le) (λ types. initialiser_wider (reading texts types) n m le)
-        o noted (place_of_base o.base))
+        o (place_of_base o.base))
         (one_by_one (declaring.declarator_in texts n (parts texts n) o o.specified.types o.base o.count) (declaring.declarator_in texts m (parts texts m) o o.specified.types o.base o.count)
         (external_behind texts n o) (external_behind texts m o)
         (declarator_in_wider texts n m le (parts texts n) (parts texts m) Specifiers (λ types functions. each_declarator texts types functions false n m le) (λ types. initialiser_wider (reading texts types) n m le)
-        o noted o.specified.types o.base o.count)
+        o o.specified.types o.base o.count)
         behind_wider)
 
   -- ---- declarations outside of functions, and units
@@ -86,7 +86,7 @@ module _ (texts : List (List ℕ)) (n m : ℕ) (le : n ≤ m) where
   external_wider ds =
       before _ _ _
       (opening_then texts n m le (parts texts n) (parts texts m) Specifiers (λ types functions. each_declarator texts types functions false n m le) (λ types. initialiser_wider (reading texts types) n m le)
-      ds.types _ _ (λ o noted. after_wider o noted ds.types))
+      ds.types _ _ (λ o. after_wider o ds.types))
 
   pub unit_wider : (some : 1 ≤ n) (more : 1 ≤ m) → Wider (unit_at texts n some) (unit_at texts m more)
   unit_wider some more = turning anything (external texts n) (external texts m) external_wider (record { list = []; types = [] })

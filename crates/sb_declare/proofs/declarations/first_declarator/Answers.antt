@@ -9,7 +9,6 @@ returns c =
     record {
       read = rw (
         declarator_is c.args.names.now.texts c.args.below o o.specified.types o.base o.count c.args.tokens.now,
-        sym c.shared-common.ensures.outer,
         sym c.shared-common.ensures.noted,
         sym c.shared-common.ensures.storage,
         sym c.depth_of-depth.ensures,

@@ -7,4 +7,4 @@ pub returns : goal.returns
 returns c =
     let o = plain_opening c.args.names.now.texts c.args.below c.args.opening in
     let shared = c.shared-common.ensures in
-    record { read = rw (nameless_is c.args.names.now.texts c.args.below o c.shared-common.result shared.outer (rw (shared.outer, shared.tokens) refl) shared.noted shared.storage shared.later c.args.tokens.now refl) c.nameless_behind.ensures.read }
+    record { read = rw (nameless_is c.args.names.now.texts c.args.below o c.shared-common.result (rw (shared.outer, shared.tokens) refl) shared.noted shared.storage shared.later c.args.tokens.now refl) c.nameless_behind.ensures.read }

@@ -1,13 +1,13 @@
-use Rattle.std.proofs.Common.{◌≡◌, ◌∙◌, [], ap, sym, subst}
+use Rattle.std.proofs.Common.{◌≡◌, ◌∙◌, false, [], ap, sym, subst}
 use Rattle.std.proofs.lemmas.Result.{err_from_is_err_and}
 use Rattle.sb_parse.specs.Parser.{done, token}
 use Rattle.sb_sign.specs.declared.sign.Mark.TheVariants as mark
 use Rattle.sb_lexicon.specs.Lexicon.{is_mark}
 use Rattle.sb_lexicon.specs.Tokens.{unexpected}
-use Rattle.sb_sal.specs.declared.bearer.Bearer.TheVariants as bearer
 use Rattle.sb_specifier.specs.Meaning.{plain_specified}
 use Rattle.sb_specifier.specs.Specified.{reading}
 use Rattle.sb_declare.specs.Openings as part
+use Rattle.sb_declare.specs.Readers.{judged_by}
 use Rattle.sb_declare.proofs.steps.Sharing.{ended, ended_faults}
 use Rattle.sb_declare.proofs.declarations.nameless_behind.Goals as goal
 
@@ -17,7 +17,7 @@ returns-in_err-end c =
     let texts = a.names.now.texts in
     let s = a.shared.now in
     let p = err_from_is_err_and c.from_residual.result c.from_residual.ensures.1 in
-    let judged = part.pardoned (part.misplacement texts a.below s.outer.now s.noted.now bearer.Object) a.count a.tokens.now in
+    let judged = judged_by texts false s.noted.now a.count false a.tokens.now in
     let whole = part.nameless_of (part.notes_of texts a.below s) s.storage (plain_specified a.specified) in
     record { read = rw (p.1, p.2) (ended_faults judged (token unexpected (is_mark (reading texts []) mark.Semicolon)) whole _ c.in_err-end.ensures.read) }
 
@@ -27,7 +27,7 @@ returns c =
     let texts = a.names.now.texts in
     let s = a.shared.now in
     let end = c.in_ok-end.end in
-    let judged = part.pardoned (part.misplacement texts a.below s.outer.now s.noted.now bearer.Object) a.count a.tokens.now in
+    let judged = judged_by texts false s.noted.now a.count false a.tokens.now in
     let whole = part.nameless_of (part.notes_of texts a.below s) s.storage (plain_specified a.specified) in
     let same = c.in_ok-unnamed.ensures ∙ ap (λ ns. part.nameless_of ns s.storage (plain_specified a.specified)) c.in_ok-end.ensures.notes in
     let read = ended judged (token unexpected (is_mark (reading texts []) mark.Semicolon)) whole end.value.0 end.rest.now c.in_ok-end.ensures.read in

@@ -13,6 +13,6 @@ returns c =
     let first = plain_counted c.args.opening.specified.types.items c.args.first in
     let shared = c.shared-common.ensures in
     record {
-      read = rw (rest_is texts below o c.shared-common.result shared.outer (rw (shared.outer, shared.tokens) refl) shared.noted shared.storage shared.later first ts)
+      read = rw (rest_is texts below o c.shared-common.result (rw (shared.outer, shared.tokens) refl) shared.noted shared.storage shared.later first ts)
           (subst (λ t. GivesAs plain_declared (rest_behind texts below c.shared-common.result t o.specified.types first ts) c.rest_behind.result) c.in_ok-base.ensures.tree c.rest_behind.ensures.read);
     }
