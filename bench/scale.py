@@ -82,7 +82,7 @@ SERIES = (
     ("bytes of 64 nested headers", includes, (FILE_BYTES // 4, FILE_BYTES // 2, FILE_BYTES), lambda n: "0 warnings in 0 functions"),
     ("macros", definitions, (5000, 10000, 20000), lambda n: f"t.c:{n + 1}:1: {UNBUILT}"),
     ("warnings in a function", warnings, (4000, 16000, 64000), lambda n: f"{n} warnings in 1 functions"),
-    ("declarators behind annotations", declarators, (250, 500, 1000), lambda n: f"t.c:1:1: {UNBUILT}"),
+    ("declarators behind annotations", declarators, (25, 50, 100), lambda n: f"t.c:1:1: {UNBUILT}"),
     ("typedef names", typedefs, (2000, 4000, 8000), lambda n: f"t.c:1:1: {UNBUILT}"),
 )
 
