@@ -6,9 +6,10 @@ use crate::units::put_tokens;
 use sb_base::{Names, Token};
 use sb_grammar::{expr, notes, tree, type_name};
 use sb_lexicon::{ReadFault, Reason, stop_at};
+use sb_scope::{Scope, Typedefs};
 use sb_show::{Block, Part, Report, put_part};
 use sb_sign::{Keyword, Mark, is_keyword, is_mark, keyword_of, mark_of, name_of};
-use sb_tree::{Cursor, Scope};
+use sb_tree::Cursor;
 use std::alloc::{AllocError, Global};
 
 /// The tokens that are left, if any.
@@ -124,10 +125,10 @@ fn put_sign(names: &Names, token: &Token, report: &mut Report) {
 
 /// The typedef names of a block: its words from the third on.
 fn scope_of(alloc: Global, block: &Block, names: &mut Names) -> Result<Scope, AllocError> {
-    let mut types = Vec::new(alloc);
+    let mut types = Typedefs::none();
     for word in block.words.split(' ').skip(2) {
         match names.intern(alloc, word.as_bytes()) {
-            Ok(name) => types.push(name)?,
+            Ok(name) => types.add(alloc, name)?,
             Err(_) => return Err(AllocError),
         }
     }

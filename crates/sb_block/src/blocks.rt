@@ -7,8 +7,9 @@ ghost use Rattle.sb_statement.specs.Readers as spec;
 ghost use Rattle.sb_tree.specs.Plain.{plain_stmt};
 
 use crate::statements::{item_within, statement};
-use sb_base::{Name, Names, Token};
+use sb_base::{Names, Token};
 use sb_lexicon::{Read, ReadFault, take_mark};
+use sb_scope::Typedefs;
 use sb_sign::Mark;
 use sb_statement::{
     Body, declaration_item, is_declaration_next, is_item_next, is_label_next,
@@ -22,7 +23,7 @@ use std::alloc::Global;
 fn more_items<'a>(
     alloc: Global,
     names: &Names,
-    types: &[Name],
+    types: &Typedefs,
     cases: bool,
     below: u32,
     start: Read<'a, Body>,
@@ -48,7 +49,7 @@ fn more_items<'a>(
 fn items<'a>(
     alloc: Global,
     names: &Names,
-    types: &[Name],
+    types: &Typedefs,
     cases: bool,
     below: u32,
     tokens: &'a [Token],
@@ -60,7 +61,7 @@ fn items<'a>(
     let start = Read {
         value: Body {
             list: Vec::new(alloc),
-            types: Vec::from_slice(alloc, types)?,
+            types: types.clone()?,
         },
         rest: tokens,
     };
@@ -73,7 +74,7 @@ fn items<'a>(
 pub(crate) fn block<'a>(
     alloc: Global,
     names: &Names,
-    types: &[Name],
+    types: &Typedefs,
     cases: bool,
     below: u32,
     tokens: &'a [Token],

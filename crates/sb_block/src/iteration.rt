@@ -6,8 +6,9 @@ ghost use Rattle.sb_statement.specs.Readers as spec;
 ghost use Rattle.sb_tree.specs.Plain.{plain_stmt};
 
 use crate::statements::statement_within;
-use sb_base::{Name, Names, Place, Token};
+use sb_base::{Names, Place, Token};
 use sb_lexicon::{Read, ReadFault, take_keyword, take_mark};
+use sb_scope::Typedefs;
 use sb_sign::{Keyword, Mark};
 use sb_statement::{First, first_within, in_parentheses, optional, reading, semicolon};
 use sb_tree::Stmt;
@@ -19,7 +20,7 @@ use std::alloc::Global;
 pub(crate) fn repeated<'a>(
     alloc: Global,
     names: &Names,
-    types: &[Name],
+    types: &Typedefs,
     below: u32,
     tokens: &'a [Token],
 ) -> Result<Read<'a, Stmt>, ReadFault>
@@ -43,7 +44,7 @@ pub(crate) fn repeated<'a>(
 pub(crate) fn done_first<'a>(
     alloc: Global,
     names: &Names,
-    types: &[Name],
+    types: &Typedefs,
     below: u32,
     tokens: &'a [Token],
 ) -> Result<Read<'a, Stmt>, ReadFault>
@@ -109,7 +110,7 @@ fn stepped<'a>(
 pub(crate) fn iterated<'a>(
     alloc: Global,
     names: &Names,
-    types: &[Name],
+    types: &Typedefs,
     below: u32,
     tokens: &'a [Token],
 ) -> Result<Read<'a, Stmt>, ReadFault>

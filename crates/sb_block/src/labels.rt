@@ -7,8 +7,9 @@ ghost use Rattle.sb_statement.specs.Readers as spec;
 ghost use Rattle.sb_tree.specs.Plain.{plain_stmt};
 
 use crate::statements::statement_within;
-use sb_base::{Name, Names, Token};
+use sb_base::{Names, Token};
 use sb_lexicon::{Read, ReadFault, take_keyword, take_mark, take_member};
+use sb_scope::Typedefs;
 use sb_sign::{Keyword, Mark};
 use sb_statement::{constant, evaluated, is_case_next, is_label_next, reading, unlabelled};
 use sb_tree::Stmt;
@@ -20,7 +21,7 @@ use std::alloc::Global;
 fn labelled<'a>(
     alloc: Global,
     names: &Names,
-    types: &[Name],
+    types: &Typedefs,
     cases: bool,
     below: u32,
     tokens: &'a [Token],
@@ -46,7 +47,7 @@ fn labelled<'a>(
 fn case_of<'a>(
     alloc: Global,
     names: &Names,
-    types: &[Name],
+    types: &Typedefs,
     below: u32,
     tokens: &'a [Token],
 ) -> Result<Read<'a, Stmt>, ReadFault>
@@ -73,7 +74,7 @@ fn case_of<'a>(
 fn default_of<'a>(
     alloc: Global,
     names: &Names,
-    types: &[Name],
+    types: &Typedefs,
     below: u32,
     tokens: &'a [Token],
 ) -> Result<Read<'a, Stmt>, ReadFault>
@@ -97,7 +98,7 @@ fn default_of<'a>(
 pub(crate) fn cased<'a>(
     alloc: Global,
     names: &Names,
-    types: &[Name],
+    types: &Typedefs,
     cases: bool,
     below: u32,
     tokens: &'a [Token],
@@ -127,7 +128,7 @@ pub(crate) fn cased<'a>(
 pub(crate) fn by_name<'a>(
     alloc: Global,
     names: &Names,
-    types: &[Name],
+    types: &Typedefs,
     cases: bool,
     below: u32,
     tokens: &'a [Token],

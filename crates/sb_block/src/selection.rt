@@ -6,8 +6,9 @@ ghost use Rattle.sb_statement.specs.Readers as spec;
 ghost use Rattle.sb_tree.specs.Plain.{plain_stmt};
 
 use crate::statements::{block_within, statement_within};
-use sb_base::{Name, Names, Token};
+use sb_base::{Names, Token};
 use sb_lexicon::{Read, ReadFault, is_keyword_next, take_keyword};
+use sb_scope::Typedefs;
 use sb_sign::Keyword;
 use sb_statement::{in_parentheses, reading};
 use sb_tree::Stmt;
@@ -19,7 +20,7 @@ use std::alloc::Global;
 fn other<'a>(
     alloc: Global,
     names: &Names,
-    types: &[Name],
+    types: &Typedefs,
     below: u32,
     tokens: &'a [Token],
 ) -> Result<Read<'a, Option<Box<Stmt>>>, ReadFault>
@@ -48,7 +49,7 @@ fn other<'a>(
 pub(crate) fn selected<'a>(
     alloc: Global,
     names: &Names,
-    types: &[Name],
+    types: &Typedefs,
     below: u32,
     tokens: &'a [Token],
 ) -> Result<Read<'a, Stmt>, ReadFault>
@@ -74,7 +75,7 @@ pub(crate) fn selected<'a>(
 pub(crate) fn switched<'a>(
     alloc: Global,
     names: &Names,
-    types: &[Name],
+    types: &Typedefs,
     below: u32,
     tokens: &'a [Token],
 ) -> Result<Read<'a, Stmt>, ReadFault>

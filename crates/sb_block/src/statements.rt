@@ -10,8 +10,9 @@ use crate::blocks::{block, item};
 use crate::iteration::{done_first, iterated, repeated};
 use crate::labels::{by_name, cased};
 use crate::selection::{selected, switched};
-use sb_base::{Name, Names, Token};
+use sb_base::{Names, Token};
 use sb_lexicon::{Read, ReadFault, is_keyword_next, is_mark_next};
+use sb_scope::Typedefs;
 use sb_sign::{Keyword, Mark};
 use sb_statement::{
     Body, broken, continued, empty, gone, is_name_next, no_block, no_item, no_statement, reading,
@@ -25,7 +26,7 @@ use std::alloc::Global;
 fn jumping<'a>(
     alloc: Global,
     names: &Names,
-    types: &[Name],
+    types: &Typedefs,
     cases: bool,
     below: u32,
     tokens: &'a [Token],
@@ -55,7 +56,7 @@ fn jumping<'a>(
 fn iterating<'a>(
     alloc: Global,
     names: &Names,
-    types: &[Name],
+    types: &Typedefs,
     cases: bool,
     below: u32,
     tokens: &'a [Token],
@@ -93,7 +94,7 @@ fn iterating<'a>(
 fn by_keyword<'a>(
     alloc: Global,
     names: &Names,
-    types: &[Name],
+    types: &Typedefs,
     cases: bool,
     below: u32,
     tokens: &'a [Token],
@@ -124,7 +125,7 @@ fn by_keyword<'a>(
 pub(crate) fn statement<'a>(
     alloc: Global,
     names: &Names,
-    types: &[Name],
+    types: &Typedefs,
     cases: bool,
     below: u32,
     tokens: &'a [Token],
@@ -146,7 +147,7 @@ pub(crate) fn statement<'a>(
 pub(crate) fn statement_within<'a>(
     alloc: Global,
     names: &Names,
-    types: &[Name],
+    types: &Typedefs,
     cases: bool,
     left: u32,
     tokens: &'a [Token],
@@ -166,7 +167,7 @@ pub(crate) fn statement_within<'a>(
 pub fn block_within<'a>(
     alloc: Global,
     names: &Names,
-    types: &[Name],
+    types: &Typedefs,
     cases: bool,
     left: u32,
     tokens: &'a [Token],

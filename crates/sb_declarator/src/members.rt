@@ -16,12 +16,13 @@ ghost use Rattle.sb_specifier.specs.Specified.{reading, one_if};
 
 use crate::declarators::declarator_within;
 use crate::specifier_list::specifiers;
-use sb_base::{Name, Names, Token};
+use sb_base::{Names, Token};
 use sb_derivation::{
     DeclList, Declarations, FoundDecl, Heading, member_notes, notes_again, simple_decl, with_decl,
 };
 use sb_lexicon::{Feature, Lexicon, Read, ReadFault};
 use sb_sal::NoteList;
+use sb_scope::Typedefs;
 use sb_sign::Mark;
 use sb_specifier::{Based, NOWHERE, Seat, barred, is_mark_next, is_other_next, take_mark};
 use std::alloc::Global;
@@ -33,7 +34,7 @@ fn member_declarator<'a>(
     alloc: Global,
     names: &Names,
     below: u32,
-    types: &[Name],
+    types: &Typedefs,
     notes: NoteList<'_>,
     base: Based,
     tokens: &'a [Token],
@@ -189,23 +190,16 @@ fn member<'a>(
     ensures depth { IfOk result (λ r. r.value.depth ≤ below + 1) }
 {
     let outer = so_far.types;
-    let notes = member_notes(alloc, names, below, outer.as_slice(), tokens)?;
-    let found = specifiers(
-        alloc,
-        names,
-        Seat::Structure,
-        below,
-        outer.as_slice(),
-        notes.rest,
-    )?;
+    let notes = member_notes(alloc, names, below, &outer, tokens)?;
+    let found = specifiers(alloc, names, Seat::Structure, below, &outer, notes.rest)?;
     let later = found.value.later();
     let specified = found.value;
     let base = specified
         .said
         .based(alloc, specified.depth, specified.constant)?;
     let heading = Heading {
-        outer: outer.as_slice(),
-        types: specified.types.as_slice(),
+        outer: &outer,
+        types: &specified.types,
         noted: tokens,
         later,
     };
@@ -263,13 +257,13 @@ fn some_members<'a>(
     alloc: Global,
     names: &Names,
     below: u32,
-    types: Vec<Name>,
+    types: Typedefs,
     tokens: &'a [Token],
 ) -> Result<Read<'a, Declarations>, ReadFault>
     requires shallow { below < 200 }
     requires some { 1 ≤ below }
     ensures read { ReadsDeclarations
-        (inside spec.members names.now.texts below types.items tokens.now) result }
+        (inside spec.members names.now.texts below types tokens.now) result }
     ensures depth { IfOk result (λ r. r.value.depth ≤ below + 1) }
 {
     let none = Declarations {
@@ -287,18 +281,18 @@ pub(crate) fn members<'a>(
     alloc: Global,
     names: &Names,
     left: u32,
-    types: Vec<Name>,
+    types: Typedefs,
     tokens: &'a [Token],
 ) -> Result<Read<'a, Declarations>, ReadFault>
     requires shallow { left ≤ 200 }
     ensures read { ReadsDeclarations
-        ((spec.parts names.now.texts left 0).members types.items tokens.now) result }
+        ((spec.parts names.now.texts left 0).members types tokens.now) result }
     ensures depth { IfOk result (λ r. r.value.depth ≤ left) }
 {
     if left < 2 {
         let lexicon = Lexicon {
             names,
-            types: types.as_slice(),
+            types: &types,
             in_note: false,
         };
         return Err(barred(&lexicon, Seat::Structure, tokens));

@@ -15,13 +15,14 @@ ghost use Rattle.sb_specifier.specs.Specified.{reading};
 
 use crate::declarators::declarator_within;
 use crate::specifier_list::specifiers;
-use sb_base::{Name, Names, Place, Token};
+use sb_base::{Names, Place, Token};
 use sb_derivation::{
     DeclList, Declarations, beyond_limit, first_place, is_close_second, is_old_next, only_void,
     parameter_notes, simple_decl, void_parameters, without_name,
 };
 use sb_lexicon::{Feature, Lexicon, Read, ReadFault, is_keyword_next};
 use sb_sal::NoteList;
+use sb_scope::Typedefs;
 use sb_sign::{Keyword, Mark};
 use sb_specifier::{Based, Seat, is_mark_next, take_mark};
 use std::alloc::Global;
@@ -57,7 +58,7 @@ fn parameter_behind<'a>(
     let found = declarator_within(alloc, lexicon, false, true, below, room, so_far.rest)?;
     let count = found.value.pieces.len() as u32;
     let depth = found.value.depth.max(base.depth + count);
-    let types = without_name(found.value.name, Vec::from_slice(alloc, lexicon.types)?);
+    let types = without_name(alloc, found.value.name, lexicon.types)?;
     let tree = simple_decl(alloc, notes.list, base.tree, found.value, place)?;
     let mut list = so_far.list;
     list.push(tree)?;
@@ -91,15 +92,8 @@ fn parameter<'a>(
     ensures depth { IfOk result (λ r. r.value.depth ≤ below + 1) }
 {
     let outer = so_far.types;
-    let notes = parameter_notes(alloc, names, below, outer.as_slice(), tokens)?;
-    let found = specifiers(
-        alloc,
-        names,
-        Seat::Prototype,
-        below,
-        outer.as_slice(),
-        notes.rest,
-    )?;
+    let notes = parameter_notes(alloc, names, below, &outer, tokens)?;
+    let found = specifiers(alloc, names, Seat::Prototype, below, &outer, notes.rest)?;
     let place = first_place(tokens, notes.rest, found.rest);
     let specified = found.value;
     let base = specified
@@ -107,7 +101,7 @@ fn parameter<'a>(
         .based(alloc, specified.depth, specified.constant)?;
     let lexicon = Lexicon {
         names,
-        types: specified.types.as_slice(),
+        types: &specified.types,
         in_note: false,
     };
     let before = DeclList {
@@ -140,7 +134,7 @@ fn another_parameter<'a>(
     ensures depth { IfOk result (λ r. r.value.depth ≤ below + 1) }
 {
     if so_far.list.len() >= 32 {
-        return Err(beyond_limit(names, so_far.types.as_slice(), tokens));
+        return Err(beyond_limit(names, &so_far.types, tokens));
     }
     parameter(alloc, names, below, so_far, tokens)
 }
@@ -210,7 +204,7 @@ fn parameters_at<'a>(
     alloc: Global,
     names: &Names,
     below: u32,
-    types: &[Name],
+    types: &Typedefs,
     tokens: &'a [Token],
 ) -> Result<Read<'a, Declarations>, ReadFault>
     requires shallow { below < 200 }
@@ -222,7 +216,7 @@ fn parameters_at<'a>(
     let none = Declarations {
         list: Vec::new(alloc),
         depth: 0,
-        types: Vec::from_slice(alloc, types)?,
+        types: types.clone()?,
     };
     let first = parameter(alloc, names, below, none, tokens)?;
     more_parameters(alloc, names, below, first.value, first.rest)

@@ -13,6 +13,7 @@ use crate::members::members;
 use sb_base::{Name, Names, Place, Token};
 use sb_derivation::Untyped;
 use sb_lexicon::{Read, ReadFault};
+use sb_scope::Typedefs;
 use sb_sign::{Keyword, Mark};
 use sb_specifier::{
     Said, Seat, Specified, completed, enumeration, is_mark_next, is_specifier_next, is_tag_next,
@@ -204,7 +205,7 @@ pub fn specifiers<'a>(
     names: &Names,
     seat: Seat,
     below: u32,
-    types: &[Name],
+    types: &Typedefs,
     tokens: &'a [Token],
 ) -> Result<Read<'a, Specified>, ReadFault>
     requires shallow { below < 200 }
@@ -214,7 +215,7 @@ pub fn specifiers<'a>(
     ensures known { IfOk result (λ r. IsKnown r.value) }
     ensures fits { IfOk result (λ r. IsRoomy below r.value) }
 {
-    let none = Specified::none(Vec::from_slice(alloc, types)?);
+    let none = Specified::none(types.clone()?);
     let words = keyword_specifiers(alloc, names, seat, below, none, tokens)?;
     let all = defined(alloc, names, seat, below, words.value, words.rest)?;
     completed(all)

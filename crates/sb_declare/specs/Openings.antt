@@ -68,10 +68,10 @@ abbrev pub plain_counted : List Name → Counted → Declarator × ℕ
 plain_counted types c = (plain_declarator types c.declarator, c.count)
 
 abbrev pub plain_listing : declared_listing.Listing → Listing
-plain_listing l = record { list = plain_decls l.list.items; types = l.types.items; count = l.count }
+plain_listing l = record { list = plain_decls l.list.items; types = l.types; count = l.count }
 
 abbrev pub plain_declared : Declared → Declarations
-plain_declared ds = record { list = plain_decls ds.list.items; types = ds.types.items }
+plain_declared ds = record { list = plain_decls ds.list.items; types = ds.types }
 
 -- what judging annotations comes to: nothing where they may stand there, and else a fault
 abbrev pub Judges : List (List ℕ) → (function : Bool) → (noted : List Token) → ℕ → List Token → Result (Unit {0}) ReadFault → Type 0

@@ -15,8 +15,9 @@ use crate::sharing::{
     Counted, Listing, Shared, declarator_on, judged, next_declarators, notes_again,
 };
 use crate::tails::behind;
-use sb_base::{Name, Names, Token};
+use sb_base::{Names, Token};
 use sb_lexicon::{Lexicon, Read, ReadFault};
+use sb_scope::Typedefs;
 use sb_sign::Mark;
 use sb_specifier::{Seat, Specified, barred, take_mark};
 use sb_tree::{Decl, Note, Storage, TypeName};
@@ -26,7 +27,7 @@ use std::alloc::{AllocError, Global};
 #[derive(Drop)]
 pub struct Declared {
     pub list: Vec<Decl>,
-    pub types: Vec<Name>,
+    pub types: Typedefs,
 }
 
 /// What the declarators of a declaration share.
@@ -74,13 +75,13 @@ pub fn first_declarator<'a>(
     requires shallow { below < 200 }
     requires known { IsKnown opening.now.specified }
     requires fits { IsRoomy below opening.now.specified }
-    ensures read { GivesAs (plain_counted opening.now.specified.types.items)
+    ensures read { GivesAs (plain_counted opening.now.specified.types)
         (part.first_declarator names.now.texts below
         (plain_opening names.now.texts below opening.now) tokens.now) result }
 {
     let lexicon = Lexicon {
         names,
-        types: opening.specified.types.as_slice(),
+        types: &opening.specified.types,
         in_note: false,
     };
     let depth = depth_of(&opening.specified);
@@ -97,9 +98,9 @@ pub fn first_declarator<'a>(
 }
 
 /// One declaration alone.
-pub(crate) fn alone(alloc: Global, tree: Decl, types: Vec<Name>) -> Result<Declared, AllocError>
+pub(crate) fn alone(alloc: Global, tree: Decl, types: Typedefs) -> Result<Declared, AllocError>
     ensures { IfOk result
-        (λ ds. plain_declared ds ≡ record { list = plain_decl tree ∷ []; types = types.items }) }
+        (λ ds. plain_declared ds ≡ record { list = plain_decl tree ∷ []; types = types }) }
 {
     let mut list = Vec::new(alloc);
     list.push(tree)?;
@@ -128,14 +129,14 @@ fn rest_behind<'a>(
     below: u32,
     shared: &Shared,
     base: Box<TypeName>,
-    types: Vec<Name>,
+    types: Typedefs,
     first: Read<'a, Counted>,
 ) -> Result<Read<'a, Declared>, ReadFault>
     requires shallow { below < 200 }
     requires fits { 1 + specified.one_if shared.now.later.constant ≤ below }
     ensures read { GivesAs plain_declared
-        (part.rest_behind names.now.texts below shared.now (plain_type base.value) types.items
-        (plain_counted types.items first.entry.value) first.entry.rest.now) result }
+        (part.rest_behind names.now.texts below shared.now (plain_type base.value) types
+        (plain_counted types first.entry.value) first.entry.rest.now) result }
 {
     let none = Listing {
         list: Vec::new(alloc),
@@ -162,7 +163,7 @@ pub fn rest_of_declaration<'a>(
     ensures read { GivesAs plain_declared
         (inside spec.rest_of_declaration names.now.texts below
         (plain_opening names.now.texts below opening.entry)
-        (plain_counted opening.entry.specified.types.items first) tokens.now) result }
+        (plain_counted opening.entry.specified.types first) tokens.now) result }
 {
     let common = shared(&opening);
     let specified = opening.specified;
@@ -307,7 +308,7 @@ fn named<'a>(
 fn declaration_at<'a>(
     alloc: Global,
     names: &Names,
-    types: &[Name],
+    types: &Typedefs,
     below: u32,
     tokens: &'a [Token],
 ) -> Result<Read<'a, Declared>, ReadFault>
@@ -332,7 +333,7 @@ fn declaration_at<'a>(
 pub fn declaration<'a>(
     alloc: Global,
     names: &Names,
-    types: &[Name],
+    types: &Typedefs,
     left: u32,
     tokens: &'a [Token],
 ) -> Result<Read<'a, Declared>, ReadFault>

@@ -12,9 +12,10 @@ use crate::building::{declaration_of, pieces_of};
 use crate::declarations::{Declared, alone, shared};
 use crate::openings::Opening;
 use crate::sharing::{Counted, declared_by, notes_again};
-use sb_base::{Name, Names};
+use sb_base::Names;
 use sb_lexicon::ReadFault;
 use sb_operand::typed;
+use sb_scope::Typedefs;
 use sb_tree::Stmt;
 use std::alloc::{AllocError, Global};
 
@@ -33,7 +34,7 @@ pub fn definition(
     ensures value { IfOk result
         (λ ds. plain_declared ds
         ≡ part.definition names.now.texts below (plain_opening names.now.texts below opening.entry)
-        (plain_counted opening.entry.specified.types.items first).0 (plain_stmt body)) }
+        (plain_counted opening.entry.specified.types first).0 (plain_stmt body)) }
     ensures memory { IfErr result (λ e. e ≡ Memory) }
 {
     let common = shared(&opening);
@@ -44,7 +45,7 @@ pub fn definition(
         .said
         .based(alloc, specified.depth, specified.constant)?;
     let type_name = typed(alloc, base.tree, pieces_of(first.declarator))?;
-    let types = declared_by(common.storage, declared, specified.types)?;
+    let types = declared_by(alloc, common.storage, declared, specified.types)?;
     let tree = declaration_of(notes, common.storage, type_name, declared, None, Some(body));
     Ok(alone(alloc, tree, types)?)
 }
@@ -54,17 +55,22 @@ pub fn names_inside(
     alloc: Global,
     opening: &Opening,
     first: &Counted,
-) -> Result<Vec<Name>, AllocError>
+) -> Result<Typedefs, AllocError>
     ensures { IfOk result
-        (λ ns. ns.items
+        (λ ns. ns
         ≡ part.declared_as (specified.storage_of (plain_specified opening.now.specified))
         first.now.declarator.name
-        (plain_declarator opening.now.specified.types.items first.now.declarator).inner) }
+        (plain_declarator opening.now.specified.types first.now.declarator).inner) }
 {
     let before = match &first.declarator.inner {
-        Some(inner) => inner.as_slice(),
-        None => opening.specified.types.as_slice(),
+        Some(inner) => inner,
+        None => &opening.specified.types,
     };
-    let types = Vec::from_slice(alloc, before)?;
-    declared_by(opening.specified.storage(), first.declarator.name, types)
+    let types = before.clone()?;
+    declared_by(
+        alloc,
+        opening.specified.storage(),
+        first.declarator.name,
+        types,
+    )
 }

@@ -9,11 +9,12 @@ ghost use Rattle.sb_declare.specs.Openings as part;
 ghost use Rattle.sb_declare.specs.Readers as declaration;
 ghost use Rattle.sb_specifier.specs.Readers as spec;
 
-use sb_base::{Name, Names, Token};
+use sb_base::{Names, Token};
 use sb_declarator::specifiers;
 use sb_initialiser::initialiser;
 use sb_lexicon::{Lexicon, Read, ReadFault, is_mark_next};
 use sb_sal::{Bearer, notes_within};
+use sb_scope::Typedefs;
 use sb_sign::Mark;
 use sb_specifier::{Seat, Specified, take_mark};
 use sb_tree::Init;
@@ -23,7 +24,7 @@ use std::alloc::Global;
 /// those of the annotations, its specifiers, and how many tokens stand behind the annotations so far.
 #[derive(Drop)]
 pub struct Opening<'n, 'a> {
-    pub outer: &'n [Name],
+    pub outer: &'n Typedefs,
     pub tokens: &'a [Token],
     pub noted: &'a [Token],
     pub specified: Specified,
@@ -51,7 +52,7 @@ pub(crate) fn front<'a>(tokens: &'a [Token], rest: &[Token]) -> &'a [Token]
 pub fn opening_within<'n, 'a>(
     alloc: Global,
     names: &Names,
-    types: &'n [Name],
+    types: &'n Typedefs,
     below: u32,
     tokens: &'a [Token],
 ) -> Result<Read<'a, Opening<'n, 'a>>, ReadFault>

@@ -17,6 +17,7 @@ use sb_declarator::declarator_within;
 use sb_derivation::Declarator;
 use sb_lexicon::{Lexicon, Read, ReadFault, Reason};
 use sb_sal::{Bearer, notes_within};
+use sb_scope::Typedefs;
 use sb_sign::{Mark, is_mark};
 use sb_specifier::{Later, declare, is_mark_next, take_mark};
 use sb_tree::{Decl, Note, Storage};
@@ -26,7 +27,7 @@ use std::alloc::{AllocError, Global};
 /// on, those of the annotations, how it is stored, and the type of a later declarator.
 #[derive(Clone, Copy)]
 pub(crate) struct Shared<'n, 'a> {
-    pub(crate) outer: &'n [Name],
+    pub(crate) outer: &'n Typedefs,
     pub(crate) tokens: &'a [Token],
     pub(crate) noted: &'a [Token],
     pub(crate) storage: Storage,
@@ -44,7 +45,7 @@ pub struct Counted {
 #[derive(Drop)]
 pub(crate) struct Listing {
     pub(crate) list: Vec<Decl>,
-    pub(crate) types: Vec<Name>,
+    pub(crate) types: Typedefs,
     pub(crate) count: usize,
 }
 
@@ -150,15 +151,16 @@ pub(crate) fn notes_again(
 
 /// The typedef names in force behind a declarator of this name.
 pub(crate) fn declared_by(
+    alloc: Global,
     storage: Storage,
     name: Option<(Name, Place)>,
-    types: Vec<Name>,
-) -> Result<Vec<Name>, AllocError>
-    ensures { IfOk result (λ left. left.items ≡ part.declared_as storage name types.items) }
+    types: Typedefs,
+) -> Result<Typedefs, AllocError>
+    ensures { IfOk result (λ left. left ≡ part.declared_as storage name types) }
 {
     let mut left = types;
     if let Some((declared, _place)) = name {
-        declare(&mut left, storage, declared)?;
+        declare(alloc, &mut left, storage, declared)?;
     }
     Ok(left)
 }
@@ -224,7 +226,7 @@ fn next_declarator<'a>(
     let base = shared.later.based(alloc)?;
     let lexicon = Lexicon {
         names,
-        types: before.types.as_slice(),
+        types: &before.types,
         in_note: false,
     };
     let found = declarator_on(

@@ -12,10 +12,11 @@ ghost use Rattle.sb_specifier.specs.Specified.{reading};
 use crate::building::{declaration_of, pieces_of};
 use crate::openings::{front, initialised};
 use crate::sharing::{Counted, Listing, Shared, added, declared_by, notes_again};
-use sb_base::{Name, Names, Token};
+use sb_base::{Names, Token};
 use sb_derivation::Declarator;
 use sb_lexicon::{Lexicon, Read, ReadFault};
 use sb_operand::typed;
+use sb_scope::Typedefs;
 use sb_tree::{Decl, Init, Note, Storage, TypeName};
 use std::alloc::{AllocError, Global};
 
@@ -23,7 +24,7 @@ use std::alloc::{AllocError, Global};
 #[derive(Drop)]
 pub(crate) struct NamedType {
     pub(crate) type_name: Box<TypeName>,
-    pub(crate) types: Vec<Name>,
+    pub(crate) types: Typedefs,
 }
 
 /// What stands behind a declarator: the annotations that are read again, an initialiser where there is one, its tokens,
@@ -42,20 +43,20 @@ fn made_of(
     alloc: Global,
     storage: Storage,
     base: Box<TypeName>,
-    types: Vec<Name>,
+    types: Typedefs,
     declarator: Declarator,
 ) -> Result<NamedType, AllocError>
     ensures type_name { IfOk result
         (λ n. plain_type n.type_name.value
         ≡ pieces.typed (plain_type base.value) (plain_pieces declarator.pieces.items)) }
     ensures types { IfOk result
-        (λ n. n.types.items ≡ part.declared_as storage declarator.name types.items) }
+        (λ n. n.types ≡ part.declared_as storage declarator.name types) }
 {
     let declared = declarator.name;
     let type_name = typed(alloc, base, pieces_of(declarator))?;
     Ok(NamedType {
         type_name,
-        types: declared_by(storage, declared, types)?,
+        types: declared_by(alloc, storage, declared, types)?,
     })
 }
 
@@ -65,7 +66,7 @@ fn tail_behind<'a>(
     names: &Names,
     below: u32,
     shared: &Shared,
-    types: &[Name],
+    types: &Typedefs,
     declared: usize,
     count: usize,
     tokens: &'a [Token],
@@ -100,7 +101,7 @@ fn tail_behind<'a>(
 fn one_more(
     before: Vec<Decl>,
     tree: Decl,
-    types: Vec<Name>,
+    types: Typedefs,
     count: usize,
 ) -> Result<Listing, AllocError>
     ensures { IfOk result
@@ -108,7 +109,7 @@ fn one_more(
         ≡ record {
           list = plain_decls before.items ++ (plain_decl tree ∷ []);
           types
-              = types.items;
+              = types;
           count = count;
         }) }
 {
@@ -130,15 +131,15 @@ pub(crate) fn behind<'a>(
     requires shallow { below < 200 }
     ensures read { GivesAs plain_listing
         (part.behind names.now.texts below (part.notes_of names.now.texts below shared.now)
-        shared.now.storage (plain_type base.value) (plain_listing so_far).list so_far.types.items
-        (plain_counted so_far.types.items found.entry.value) found.entry.rest.now) result }
+        shared.now.storage (plain_type base.value) (plain_listing so_far).list so_far.types
+        (plain_counted so_far.types found.entry.value) found.entry.rest.now) result }
 {
     let storage = shared.storage;
     let count = found.value.count;
     let declarator = found.value.declarator;
     let declared = declarator.name;
     let made = made_of(alloc, storage, base, so_far.types, declarator)?;
-    let types = made.types.as_slice();
+    let types = &made.types;
     let tail = tail_behind(
         alloc,
         names,

@@ -1,7 +1,5 @@
 -- What declarators in code stand for in the definitions, and the parts of their readers and of those of parameters that hold no declarator.
 use Rattle.std.specs.Prelude.{◌≡◌, ◌≤◌, ◌-◌, ℕ, Bool, ◌&&◌, ◌||◌, not, List, [], ◌∷◌, ◌++◌, length, take, drop, Option, Some, None, Result, Ok, Err, if◌then◌else◌}
-use Rattle.std.specs.declared.alloc.Global.{Global}
-use Rattle.std.specs.declared.vec.Vec.{Vec}
 use Rattle.std.specs.Option.{option_map_or}
 use Rattle.sb_base.specs.declared.interning.Name.{Name}
 use Rattle.sb_base.specs.declared.refusals.Place.{Place}
@@ -27,9 +25,9 @@ use Rattle.sb_specifier.specs.Readers.{Declarator, Declarations, is_name, name_a
 -- ---- what was read
 
 -- the typedef names that parameters left in force, and without parameters those before
-abbrev pub names_inside : List Name → Option (Vec Name Global) → List Name
+abbrev pub names_inside : List Name → Option (List Name) → List Name
 names_inside types None = types
-names_inside types (Some inner) = inner.items
+names_inside types (Some inner) = inner
 
 -- `types`: the typedef names in force before the declarator
 abbrev pub plain_declarator : List Name → declared_declarator.Declarator → Declarator

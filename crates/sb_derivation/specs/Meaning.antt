@@ -25,10 +25,10 @@ ReadsPiece o (Err e) = IsFault o e
 
 -- specifiers that say nothing of a type
 abbrev pub plain_untyped : Untyped → Specified
-plain_untyped s = record { said = Nothing; constant = s.constant; storage = s.storage; types = s.types.items }
+plain_untyped s = record { said = Nothing; constant = s.constant; storage = s.storage; types = s.types }
 
 abbrev pub plain_declarations : declared_declarations.Declarations → Declarations
-plain_declarations ds = record { list = plain_decls ds.list.items; types = ds.types.items }
+plain_declarations ds = record { list = plain_decls ds.list.items; types = ds.types }
 
 abbrev pub AreKnown : declared_declarations.Declarations → Type 0
 AreKnown ds = ds.depth ≡ depth_of_decls (decl_list (plain_decls ds.list.items))

@@ -13,6 +13,7 @@ use sb_base::{Name, Place, Token};
 use sb_lexicon::{Lexicon, Read, ReadFault, is_mark, is_type_name, name_of};
 use sb_operand::{Piece, Pieces, pointing};
 use sb_sal::{begins_note, is_listed};
+use sb_scope::Typedefs;
 use sb_sign::Mark;
 use sb_specifier::{begins_parameter, is_name_next, take_name};
 use std::alloc::{AllocError, Global};
@@ -25,7 +26,7 @@ pub struct Declarator {
     pub pieces: Vec<Piece>,
     pub depth: u32,
     pub name: Option<(Name, Place)>,
-    pub inner: Option<Vec<Name>>,
+    pub inner: Option<Typedefs>,
 }
 
 impl Declarator {

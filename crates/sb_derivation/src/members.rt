@@ -10,9 +10,10 @@ ghost use Rattle.sb_derivation.specs.Meaning.{IsDeclKnown, IsListKnown};
 ghost use Rattle.sb_derivation.specs.Parts as part;
 ghost use Rattle.sb_specifier.specs.Specified.{reading};
 
-use sb_base::{Name, Names, Token};
+use sb_base::{Names, Token};
 use sb_lexicon::{Lexicon, ReadFault};
 use sb_sal::{Bearer, NoteList, notes_within};
+use sb_scope::Typedefs;
 use sb_specifier::Later;
 use sb_tree::Decl;
 use std::alloc::{AllocError, Global};
@@ -22,7 +23,7 @@ use std::alloc::{AllocError, Global};
 pub struct Declarations {
     pub list: Vec<Decl>,
     pub depth: u32,
-    pub types: Vec<Name>,
+    pub types: Typedefs,
 }
 
 /// The declarators of one declaration, how deep the deepest is, and the tokens after them.
@@ -45,8 +46,8 @@ pub struct FoundDecl<'a> {
 /// specifiers, its tokens from the annotations on, and the type of a later declarator.
 #[derive(Clone, Copy)]
 pub struct Heading<'a> {
-    pub outer: &'a [Name],
-    pub types: &'a [Name],
+    pub outer: &'a Typedefs,
+    pub types: &'a Typedefs,
     pub noted: &'a [Token],
     pub later: Later,
 }
@@ -76,7 +77,7 @@ pub fn member_notes<'a>(
     alloc: Global,
     names: &Names,
     below: u32,
-    types: &[Name],
+    types: &Typedefs,
     tokens: &'a [Token],
 ) -> Result<NoteList<'a>, ReadFault>
     requires shallow { below ≤ 200 }

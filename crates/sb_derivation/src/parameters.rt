@@ -16,8 +16,9 @@ ghost use Rattle.sb_specifier.specs.Specified.{reading};
 use sb_base::{Name, Names, Place, Token};
 use sb_lexicon::{Lexicon, ReadFault, Reason};
 use sb_sal::{Bearer, NoteList, notes_within};
-use sb_specifier::{NOWHERE, Seat, barred_by, hide};
-use std::alloc::Global;
+use sb_scope::Typedefs;
+use sb_specifier::{NOWHERE, Seat, barred_by};
+use std::alloc::{AllocError, Global};
 
 /// The annotations of a parameter.
 #[tactic(auto, using(crate::proofs::steps::Parameters::notes_end))]
@@ -25,7 +26,7 @@ pub fn parameter_notes<'a>(
     alloc: Global,
     names: &Names,
     below: u32,
-    types: &[Name],
+    types: &Typedefs,
     tokens: &'a [Token],
 ) -> Result<NoteList<'a>, ReadFault>
     requires shallow { below ≤ 200 }
@@ -54,14 +55,18 @@ pub fn first_place(tokens: &[Token], behind: &[Token], rest: &[Token]) -> Place
 }
 
 /// The typedef names that are in force behind a parameter of this name.
-pub fn without_name(name: Option<(Name, Place)>, types: Vec<Name>) -> Vec<Name>
-    ensures { result.items ≡ part.hidden_by name types.items }
+pub fn without_name(
+    alloc: Global,
+    name: Option<(Name, Place)>,
+    types: &Typedefs,
+) -> Result<Typedefs, AllocError>
+    ensures { IfOk result (λ left. left ≡ part.hidden_by name types.now) }
 {
-    let mut left = types;
+    let mut left = types.clone()?;
     if let Some((hidden, _place)) = name {
-        hide(&mut left, hidden);
+        left.hide(alloc, hidden)?;
     }
-    left
+    Ok(left)
 }
 
 /// The refusal of tokens, of which this is the first, behind 32 parameters and a comma. Its text is a number of 32 bits, so
@@ -76,7 +81,7 @@ fn refused_at(lexicon: &Lexicon, _first: Token, tokens: &[Token]) -> ReadFault
 }
 
 /// The refusal of what stands behind 32 parameters and a comma.
-pub fn beyond_limit(names: &Names, types: &[Name], tokens: &[Token]) -> ReadFault
+pub fn beyond_limit(names: &Names, types: &Typedefs, tokens: &[Token]) -> ReadFault
     ensures none { at_next makes_room tokens.now ≡ false }
     ensures fault { IsFault (none_follows too_many_parameters
         (reading names.now.texts types.now) seat.Prototype tokens.now) result }

@@ -5,7 +5,7 @@ ghost use Rattle.sb_lexicon.specs.Words.{Nothing};
 ghost use Rattle.sb_specifier.specs.Meaning.{plain_said, plain_specified};
 ghost use Rattle.sb_specifier.specs.Specified as spec;
 
-use sb_base::Name;
+use sb_scope::Typedefs;
 use sb_specifier::{Said, Specified};
 use sb_tree::Storage;
 
@@ -14,7 +14,7 @@ use sb_tree::Storage;
 pub struct Untyped {
     pub constant: bool,
     pub storage: Option<Storage>,
-    pub types: Vec<Name>,
+    pub types: Typedefs,
 }
 
 impl Untyped {

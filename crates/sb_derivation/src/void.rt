@@ -68,7 +68,7 @@ fn no_parameters(alloc: Global, lexicon: &Lexicon) -> Result<Declarations, Alloc
     Ok(Declarations {
         list: Vec::new(alloc),
         depth: 0,
-        types: Vec::from_slice(alloc, lexicon.types)?,
+        types: lexicon.types.clone()?,
     })
 }
 

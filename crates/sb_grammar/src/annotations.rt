@@ -13,7 +13,8 @@ ghost use Rattle.sb_tree.specs.Plain.{plain_notes};
 use sb_base::{Names, Stop};
 use sb_lexicon::{Lexicon, stop_at, tokens_from};
 use sb_sal::{Bearer, notes_within};
-use sb_tree::{Cursor, Note, Scope};
+use sb_scope::Scope;
+use sb_tree::{Cursor, Note};
 use std::alloc::Global;
 
 /// As many annotations as there are at a place, which moves behind them.
@@ -52,17 +53,17 @@ pub fn notes(
 ) -> Result<Vec<Note>, Stop>
     requires next { at.old.next ≤ length at.old.tokens.now }
     requires left { at.old.left ≤ 200 }
-    ensures read { IsNotesRead (lexicon names.now.texts scope.now.types.items) at.old.tokens.now
+    ensures read { IsNotesRead (lexicon names.now.texts scope.now.types) at.old.tokens.now
         at.old.next at.old.left at.new.next result }
     ensures longest { IsLongestRead
-        (FitsNotes (lexicon names.now.texts scope.now.types.items) at.old.left
-        (may_stand (lexicon names.now.texts scope.now.types.items) bearer.Any))
+        (FitsNotes (lexicon names.now.texts scope.now.types) at.old.left
+        (may_stand (lexicon names.now.texts scope.now.types) bearer.Any))
         (λ ns v. ns ≡ plain_notes v.items) at.old.tokens.now at.old.next at.new.next result }
-    ensures reason { HasNoteReason (lexicon names.now.texts scope.now.types.items) at.old.left
-        (may_stand (lexicon names.now.texts scope.now.types.items) bearer.Any)
+    ensures reason { HasNoteReason (lexicon names.now.texts scope.now.types) at.old.left
+        (may_stand (lexicon names.now.texts scope.now.types) bearer.Any)
         (λ ns v. ns ≡ plain_notes v.items) at.old.tokens.now at.old.next at.new.next result }
-    ensures one { HasOneTree (AreNotes (lexicon names.now.texts scope.now.types.items)
-        (may_stand (lexicon names.now.texts scope.now.types.items) bearer.Any)) }
+    ensures one { HasOneTree (AreNotes (lexicon names.now.texts scope.now.types)
+        (may_stand (lexicon names.now.texts scope.now.types) bearer.Any)) }
     ensures tokens { at.new.tokens ≡ at.old.tokens }
     ensures left { at.new.left ≡ at.old.left }
     ensures within { OnOk result
@@ -70,7 +71,7 @@ pub fn notes(
 {
     let lexicon = Lexicon {
         names,
-        types: scope.types.as_slice(),
+        types: &scope.types,
         in_note: false,
     };
     notes_at(alloc, &lexicon, at)

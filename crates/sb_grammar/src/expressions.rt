@@ -14,7 +14,8 @@ use sb_base::{Names, Stop};
 use sb_expr::{Level, type_within, within};
 use sb_lexicon::{Lexicon, stop_at, tokens_from};
 use sb_operand::{Piece, typed};
-use sb_tree::{Cursor, Expr, Scope, TypeName};
+use sb_scope::Scope;
+use sb_tree::{Cursor, Expr, TypeName};
 use std::alloc::Global;
 
 /// An expression at a place, which moves behind it.
@@ -48,14 +49,14 @@ fn expr_at(alloc: Global, lexicon: &Lexicon, at: &mut Cursor) -> Result<Expr, St
 pub fn expr(alloc: Global, names: &Names, scope: &Scope, at: &mut Cursor) -> Result<Expr, Stop>
     requires next { at.old.next ≤ length at.old.tokens.now }
     requires left { at.old.left ≤ 200 }
-    ensures read { IsExprRead (lexicon names.now.texts scope.now.types.items) at.old.tokens.now
+    ensures read { IsExprRead (lexicon names.now.texts scope.now.types) at.old.tokens.now
         at.old.next at.old.left at.new.next result }
     ensures longest { IsLongestRead
-        (FitsExpr (lexicon names.now.texts scope.now.types.items) at.old.left Sequence)
+        (FitsExpr (lexicon names.now.texts scope.now.types) at.old.left Sequence)
         (λ a e. a ≡ plain_expr e) at.old.tokens.now at.old.next at.new.next result }
-    ensures reason { HasExprReason (lexicon names.now.texts scope.now.types.items)
+    ensures reason { HasExprReason (lexicon names.now.texts scope.now.types)
         at.old.tokens.now at.old.next at.old.left at.new.next result }
-    ensures one { HasOneTree (IsExpr (lexicon names.now.texts scope.now.types.items) Sequence) }
+    ensures one { HasOneTree (IsExpr (lexicon names.now.texts scope.now.types) Sequence) }
     ensures tokens { at.new.tokens ≡ at.old.tokens }
     ensures left { at.new.left ≡ at.old.left }
     ensures within { OnOk result
@@ -63,7 +64,7 @@ pub fn expr(alloc: Global, names: &Names, scope: &Scope, at: &mut Cursor) -> Res
 {
     let lexicon = Lexicon {
         names,
-        types: scope.types.as_slice(),
+        types: &scope.types,
         in_note: false,
     };
     expr_at(alloc, &lexicon, at)
@@ -109,14 +110,14 @@ pub fn type_name(
 ) -> Result<TypeName, Stop>
     requires next { at.old.next ≤ length at.old.tokens.now }
     requires left { at.old.left ≤ 200 }
-    ensures read { IsTypeRead (lexicon names.now.texts scope.now.types.items) at.old.tokens.now
+    ensures read { IsTypeRead (lexicon names.now.texts scope.now.types) at.old.tokens.now
         at.old.next at.old.left at.new.next result }
     ensures longest { IsLongestRead
-        (FitsType (lexicon names.now.texts scope.now.types.items) at.old.left)
+        (FitsType (lexicon names.now.texts scope.now.types) at.old.left)
         (λ d t. type_of d ≡ plain_type t) at.old.tokens.now at.old.next at.new.next result }
-    ensures reason { HasTypeReason (lexicon names.now.texts scope.now.types.items)
+    ensures reason { HasTypeReason (lexicon names.now.texts scope.now.types)
         at.old.tokens.now at.old.next at.old.left at.new.next result }
-    ensures one { HasOneTree (IsType (lexicon names.now.texts scope.now.types.items)) }
+    ensures one { HasOneTree (IsType (lexicon names.now.texts scope.now.types)) }
     ensures tokens { at.new.tokens ≡ at.old.tokens }
     ensures left { at.new.left ≡ at.old.left }
     ensures within { OnOk result
@@ -124,7 +125,7 @@ pub fn type_name(
 {
     let lexicon = Lexicon {
         names,
-        types: scope.types.as_slice(),
+        types: &scope.types,
         in_note: false,
     };
     type_at(alloc, &lexicon, at)

@@ -1,10 +1,10 @@
 -- What the tokens of expressions and type names are, by the table of names and the typedef names in force (C99 6.4, 6.7.7).
 use Rattle.std.specs.Prelude.{ℕ, Bool, true, false, ◌&&◌, ◌||◌, List, nat_eq, Option, Some, None, if◌then◌else◌}
-use Rattle.std.specs.List.{list_any}
 use Rattle.std.specs.Option.{option_map_or}
 use Rattle.sb_base.specs.declared.interning.Name.{Name}
 use Rattle.sb_base.specs.declared.refusals.Place.{Place}
 use Rattle.sb_base.specs.declared.tokens.Token.{Token}
+pub use Rattle.sb_scope.specs.Names.{is_among}
 use Rattle.sb_tree.specs.declared.operator.BinaryOp.{BinaryOp}
 use Rattle.sb_tree.specs.declared.operator.BinaryOp.TheVariants as binary
 use Rattle.sb_tree.specs.declared.operator.UnaryOp.{UnaryOp}
@@ -24,9 +24,6 @@ pub record Lexicon : Type 0 where
   pub types : List Name
   -- in the arguments of an annotation `return` is an operand
   pub in_note : Bool
-
-abbrev pub is_among : Name → List Name → Bool
-is_among n ns = list_any (λ m. nat_eq n.0 m.0) ns
 
 abbrev pub is_mark : Lexicon → Mark → Token → Bool
 is_mark w = sign.is_mark w.texts

@@ -7,21 +7,15 @@ ghost use Rattle.sb_lexicon.specs.Meaning.{meant};
 ghost use Rattle.sb_lexicon.specs.Tokens as reader;
 
 use sb_base::{Name, Names, Token};
+use sb_scope::Typedefs;
 use sb_sign::{Keyword, Mark};
 
 /// By what tokens are read: the table of names, the typedef names in force, and whether it is in an annotation.
 #[derive(Clone, Copy)]
 pub struct Lexicon<'a> {
     pub names: &'a Names,
-    pub types: &'a [Name],
+    pub types: &'a Typedefs,
     pub in_note: bool,
-}
-
-/// Whether a name is in a list.
-fn is_among(name: Name, names: &[Name]) -> bool
-    ensures { result ≡ spec.is_among name names.now }
-{
-    names.iter().any(|other| name.0 == other.0)
 }
 
 pub fn is_mark(lexicon: &Lexicon, mark: Mark, token: &Token) -> bool
@@ -46,7 +40,7 @@ pub fn name_of(lexicon: &Lexicon, token: &Token) -> Option<Name>
 pub fn names_type(lexicon: &Lexicon, name: Name) -> bool
     ensures { result ≡ spec.is_among name lexicon.now.types.now }
 {
-    is_among(name, lexicon.types)
+    lexicon.types.has(name)
 }
 
 pub fn is_type_name(lexicon: &Lexicon, token: &Token) -> bool

@@ -33,7 +33,7 @@ plain_said (said.Enum tag items place) = Whole (tree.Enum tag (optional_items (o
 plain_said (said.Defined name place) = Whole (tree.Defined name place)
 
 abbrev pub plain_specified : declared_specified.Specified → Specified
-plain_specified s = record { said = plain_said s.said; constant = s.constant; storage = s.storage; types = s.types.items }
+plain_specified s = record { said = plain_said s.said; constant = s.constant; storage = s.storage; types = s.types }
 
 -- the type without `const`; there is one where something is said
 abbrev pub named_by : Said → TypeTree
@@ -70,7 +70,7 @@ plain_later l = qualified l.constant (plain_named l.named)
 -- ---- enumerations
 
 abbrev pub plain_listing : Constants → Items
-plain_listing is = record { list = plain_items is.list.items; types = is.types.items; more = is.more }
+plain_listing is = record { list = plain_items is.list.items; types = is.types; more = is.more }
 
 abbrev pub AreItemsKnown : Constants → Type 0
 AreItemsKnown is = is.depth ≡ depth_of_items (item_list (plain_items is.list.items))

@@ -1,8 +1,9 @@
 -- The specifiers of a declaration so far, with the typedef names in force (C99 6.7, 6.2.1).
-use Rattle.std.specs.Prelude.{ℕ, Bool, true, false, ◌||◌, not, List, [], ◌∷◌, ◌++◌, filter, nat_eq, Option, Some, None, if◌then◌else◌}
+use Rattle.std.specs.Prelude.{ℕ, Bool, true, false, ◌||◌, List, [], ◌∷◌, Option, Some, None, if◌then◌else◌}
 use Rattle.std.specs.Option.{option_map_or}
 use Rattle.sb_base.specs.declared.interning.Name.{Name}
 use Rattle.sb_base.specs.declared.refusals.Place.{Place}
+pub use Rattle.sb_scope.specs.Names.{without, including}
 use Rattle.sb_sign.specs.declared.sign.Keyword.{Keyword}
 use Rattle.sb_sign.specs.declared.sign.Keyword.TheVariants as keyword
 use Rattle.sb_tree.specs.declared.syntax.Storage.{Storage}
@@ -19,12 +20,9 @@ use Rattle.sb_specifier.specs.declared.seat.Seat.TheVariants as seat
 
 -- ---- typedef names in force (6.2.1, 6.7.7)
 
-abbrev pub without : Name → List Name → List Name
-without n types = filter (λ m. not (nat_eq m.0 n.0)) types
-
 -- a name is declared: a typedef name comes into force, and any other one hides a typedef name
 abbrev pub declared : Storage → Name → List Name → List Name
-declared storage.Typedef n types = without n types ++ (n ∷ [])
+declared storage.Typedef n types = including n types
 declared _ n types = without n types
 
 abbrev pub reading : List (List ℕ) → List Name → Lexicon

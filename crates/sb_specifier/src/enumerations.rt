@@ -7,11 +7,12 @@ ghost use Rattle.sb_specifier.specs.Parts as part;
 ghost use Rattle.sb_specifier.specs.Readers as spec;
 ghost use Rattle.sb_specifier.specs.Specified.{reading, one_if};
 
-use crate::specified::{Said, Specified, hide};
+use crate::specified::{Said, Specified};
 use crate::tokens::{comma_behind, is_name_next, take_mark, take_name};
 use sb_base::{Name, Names, Place, Token};
 use sb_expr::{Level, within};
 use sb_lexicon::{Lexicon, Read, ReadFault, is_mark_next};
+use sb_scope::Typedefs;
 use sb_sign::Mark;
 use sb_tree::{Expr, Item};
 use std::alloc::Global;
@@ -30,7 +31,7 @@ pub(crate) struct ItemValue<'a> {
 pub(crate) struct Constants {
     pub(crate) list: Vec<Item>,
     pub(crate) depth: u32,
-    pub(crate) types: Vec<Name>,
+    pub(crate) types: Typedefs,
     pub(crate) more: bool,
 }
 
@@ -86,7 +87,7 @@ fn item<'a>(
     let name = take_name(names, tokens)?;
     let lexicon = Lexicon {
         names,
-        types: so_far.types.as_slice(),
+        types: &so_far.types,
         in_note: false,
     };
     let value = item_value(alloc, &lexicon, left, name.rest)?;
@@ -94,7 +95,7 @@ fn item<'a>(
     let mut list = so_far.list;
     list.push(Item::new(name.value.0, value.tree, name.value.1))?;
     let mut types = so_far.types;
-    hide(&mut types, name.value.0);
+    types.hide(alloc, name.value.0)?;
     Ok(Read {
         value: Constants {
             list,
@@ -138,11 +139,11 @@ fn items<'a>(
     alloc: Global,
     names: &Names,
     left: u32,
-    types: Vec<Name>,
+    types: Typedefs,
     tokens: &'a [Token],
 ) -> Result<Read<'a, Constants>, ReadFault>
     requires shallow { left ≤ 200 }
-    ensures read { ReadsItems (part.items names.now.texts left types.items tokens.now) result }
+    ensures read { ReadsItems (part.items names.now.texts left types tokens.now) result }
     ensures depth { IfOk result (λ r. r.value.depth ≤ left) }
 {
     let none = Constants {

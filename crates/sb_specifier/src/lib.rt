@@ -14,7 +14,7 @@ pub use barring::{barred, barred_by, begins_declaration, begins_parameter};
 pub use enumerations::{enumeration, room_inside};
 pub use seat::Seat;
 pub use sizes::array_size;
-pub use specified::{Based, Later, NOWHERE, Named, Said, Specified, declare, hide};
+pub use specified::{Based, Later, NOWHERE, Named, Said, Specified, declare};
 pub use tags::{is_tag_next, past_tag, tagged_enumeration};
 pub use tokens::{
     comma_behind, is_mark_next, is_name, is_name_next, is_other_next, is_specifier_next,

@@ -11,6 +11,7 @@ ghost use Rattle.sb_specifier.specs.Specified as spec;
 use crate::seat::Seat;
 use sb_base::{Name, Place};
 use sb_lexicon::TypeWords;
+use sb_scope::Typedefs;
 use sb_sign::Keyword;
 use sb_tree::{Decl, Item, Storage, TypeName};
 use std::alloc::{AllocError, Global};
@@ -42,7 +43,7 @@ pub struct Specified {
     pub depth: u32,
     pub constant: bool,
     pub storage: Option<Storage>,
-    pub types: Vec<Name>,
+    pub types: Typedefs,
 }
 
 /// The type that the specifiers of a declaration name, without `const`, as its later declarators have it.
@@ -77,22 +78,20 @@ pub const NOWHERE: Place = Place {
 
 // ---- typedef names
 
-/// A name hides the typedef that has it.
-pub fn hide(types: &mut Vec<Name>, name: Name)
-    ensures { types.new.items ≡ spec.without name types.old.items }
-{
-    types.retain(|other| other.0 != name.0);
-}
-
 /// A name is declared: a typedef name comes into force, and any other one hides a typedef.
-pub fn declare(types: &mut Vec<Name>, storage: Storage, name: Name) -> Result<(), AllocError>
-    ensures { IfOk result (λ _. types.new.items ≡ spec.declared storage name types.old.items) }
+pub fn declare(
+    alloc: Global,
+    types: &mut Typedefs,
+    storage: Storage,
+    name: Name,
+) -> Result<(), AllocError>
+    ensures { IfOk result (λ _. types.new ≡ spec.declared storage name types.old) }
 {
-    hide(types, name);
     if matches!(storage, Storage::Typedef) {
-        types.push(name)?;
+        types.add(alloc, name)
+    } else {
+        types.hide(alloc, name)
     }
-    Ok(())
 }
 
 // ---- storage
@@ -224,8 +223,8 @@ impl Said {
 
 impl Specified {
     /// No specifiers, where these typedef names are in force.
-    pub fn none(types: Vec<Name>) -> Specified
-        ensures none { plain_specified result ≡ spec.unspecified types.items }
+    pub fn none(types: Typedefs) -> Specified
+        ensures none { plain_specified result ≡ spec.unspecified types }
         ensures known { IsKnown result }
         ensures flat { result.depth ≡ 1 }
         ensures free { result.constant ≡ false }

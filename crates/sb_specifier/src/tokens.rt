@@ -10,6 +10,7 @@ ghost use Rattle.sb_specifier.specs.Specified.{reading};
 
 use sb_base::{Name, Names, Place, Token};
 use sb_lexicon::{Lexicon, Read, ReadFault, is_type_word, take};
+use sb_scope::Typedefs;
 use sb_sign::{Keyword, Mark, is_keyword, is_mark, keyword_of, name_of};
 
 /// Whether a word is one of storage, or `inline` (C99 6.7.1, 6.7.4).
@@ -89,7 +90,10 @@ pub(crate) fn is_storage_next(names: &Names, tokens: &[Token]) -> bool
     ensures { result ≡ at_next (spec.is_storage_word (reading names.now.texts [])) tokens.now }
 {
     match tokens.first() {
-        Some(token) => is_storage_word(&plain(names), token),
+        Some(token) => {
+            let none = Typedefs::none();
+            is_storage_word(&plain(names, &none), token)
+        }
         None => false,
     }
 }
@@ -98,18 +102,21 @@ pub fn is_specifier_next(names: &Names, tokens: &[Token]) -> bool
     ensures { result ≡ at_next (spec.is_specifier_word (reading names.now.texts [])) tokens.now }
 {
     match tokens.first() {
-        Some(token) => is_specifier_word(&plain(names), token),
+        Some(token) => {
+            let none = Typedefs::none();
+            is_specifier_word(&plain(names, &none), token)
+        }
         None => false,
     }
 }
 
-/// By what tokens are read that no typedef bears on.
-fn plain<'a>(names: &'a Names) -> Lexicon<'a>
-    ensures { meant result ≡ reading names.now.texts [] }
+/// By what tokens are read where these typedef names are in force.
+fn plain<'a>(names: &'a Names, types: &'a Typedefs) -> Lexicon<'a>
+    ensures { meant result ≡ reading names.now.texts types.now }
 {
     Lexicon {
         names,
-        types: &[],
+        types,
         in_note: false,
     }
 }

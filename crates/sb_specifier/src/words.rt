@@ -72,7 +72,7 @@ pub fn names_type(names: &Names, so_far: &Specified, tokens: &[Token]) -> bool
 {
     let lexicon = Lexicon {
         names,
-        types: so_far.types.as_slice(),
+        types: &so_far.types,
         in_note: false,
     };
     so_far.said.is_nothing() && is_type_name_next(&lexicon, tokens)

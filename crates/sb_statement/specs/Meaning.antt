@@ -15,13 +15,13 @@ use Rattle.sb_statement.specs.declared.values.DeclaredStatement.{DeclaredStateme
 use Rattle.sb_statement.specs.declared.values.First as declared_first
 
 abbrev pub plain_body : declared_body.Body → Body
-plain_body b = record { list = plain_stmts b.list.items; types = b.types.items }
+plain_body b = record { list = plain_stmts b.list.items; types = b.types }
 
 abbrev pub plain_first : declared_first.First → First
-plain_first f = record { first = optional_stmt (option_map plain_stmt (boxed f.statement)); types = f.types.items }
+plain_first f = record { first = optional_stmt (option_map plain_stmt (boxed f.statement)); types = f.types }
 
 abbrev pub plain_declared : DeclaredStatement → StmtTree × List Name
-plain_declared d = (plain_stmt d.statement, d.types.items)
+plain_declared d = (plain_stmt d.statement, d.types)
 
 abbrev pub plain_optional : Option Expr → OptionalExpr
 plain_optional e = optional_expr (option_map plain_expr e)

@@ -9,10 +9,11 @@ use crate::lexemes::{
     front_place, is_type_going_on, is_unlisted_next, lacks_room, reading, take_name,
 };
 use crate::values::{Body, DeclaredStatement};
-use sb_base::{Name, Names, Token};
+use sb_base::{Names, Token};
 use sb_declare::declaration;
 use sb_lexicon::{Feature, Lexicon, Read, ReadFault, Reason, is_keyword_next, is_mark_next};
 use sb_sal::{Bearer, is_bare, is_listed, is_misplaced_next};
+use sb_scope::Typedefs;
 use sb_sign::{Keyword, Mark};
 use sb_specifier::{Seat, barred};
 use sb_tree::Stmt;
@@ -23,7 +24,7 @@ use std::alloc::Global;
 pub(crate) fn declared<'a>(
     alloc: Global,
     names: &Names,
-    types: &[Name],
+    types: &Typedefs,
     below: u32,
     tokens: &'a [Token],
 ) -> Result<Read<'a, DeclaredStatement>, ReadFault>

@@ -11,10 +11,11 @@ ghost use Rattle.sb_statement.specs.Readers as spec;
 ghost use Rattle.sb_tree.specs.Plain.{plain_expr, plain_stmt};
 
 use crate::lexemes::{front_place, is_no_operand_next, is_unlisted_next, reading, take_name};
-use sb_base::{Name, Names, Token};
+use sb_base::{Names, Token};
 use sb_expr::{Level, within};
 use sb_lexicon::{Read, ReadFault, Reason, is_mark_next, take_mark};
 use sb_operand::Found;
+use sb_scope::Typedefs;
 use sb_sign::Mark;
 use sb_tree::{Expr, Stmt};
 use std::alloc::Global;
@@ -24,7 +25,7 @@ use std::alloc::Global;
 fn expression<'a>(
     alloc: Global,
     names: &Names,
-    types: &[Name],
+    types: &Typedefs,
     below: u32,
     tokens: &'a [Token],
 ) -> Result<Found<'a>, ReadFault>
@@ -44,7 +45,7 @@ fn expression<'a>(
 pub fn constant<'a>(
     alloc: Global,
     names: &Names,
-    types: &[Name],
+    types: &Typedefs,
     below: u32,
     tokens: &'a [Token],
 ) -> Result<Found<'a>, ReadFault>
@@ -65,7 +66,7 @@ pub fn constant<'a>(
 #[tactic(auto, unfolding(crate::specs::Readers::semicolon))]
 pub fn semicolon<'a>(
     names: &Names,
-    types: &[Name],
+    types: &Typedefs,
     below: u32,
     tokens: &'a [Token],
 ) -> Result<Read<'a, Token>, ReadFault>
@@ -79,7 +80,7 @@ pub fn semicolon<'a>(
 pub fn in_parentheses<'a>(
     alloc: Global,
     names: &Names,
-    types: &[Name],
+    types: &Typedefs,
     below: u32,
     tokens: &'a [Token],
 ) -> Result<Read<'a, Expr>, ReadFault>
@@ -102,7 +103,7 @@ pub fn in_parentheses<'a>(
 pub fn evaluated<'a>(
     alloc: Global,
     names: &Names,
-    types: &[Name],
+    types: &Typedefs,
     below: u32,
     tokens: &'a [Token],
 ) -> Result<Read<'a, Stmt>, ReadFault>
@@ -124,7 +125,7 @@ pub fn evaluated<'a>(
 #[tactic(auto, unfolding(crate::specs::Readers::empty))]
 pub fn empty<'a>(
     names: &Names,
-    types: &[Name],
+    types: &Typedefs,
     below: u32,
     tokens: &'a [Token],
 ) -> Result<Read<'a, Stmt>, ReadFault>
@@ -143,7 +144,7 @@ pub fn empty<'a>(
 pub fn optional<'a>(
     alloc: Global,
     names: &Names,
-    types: &[Name],
+    types: &Typedefs,
     below: u32,
     end: Mark,
     tokens: &'a [Token],
@@ -172,7 +173,7 @@ pub fn optional<'a>(
 pub fn unlabelled<'a>(
     alloc: Global,
     names: &Names,
-    types: &[Name],
+    types: &Typedefs,
     below: u32,
     tokens: &'a [Token],
 ) -> Result<Read<'a, Stmt>, ReadFault>

@@ -9,8 +9,9 @@ use crate::declarations::declared;
 use crate::expressions::evaluated;
 use crate::lexemes::{is_declaration_next, is_first_next, reading};
 use crate::values::{DeclaredStatement, First};
-use sb_base::{Name, Names, Token};
+use sb_base::{Names, Token};
 use sb_lexicon::{Lexicon, Read, ReadFault, is_mark_next, take_mark};
+use sb_scope::Typedefs;
 use sb_sign::Mark;
 use sb_specifier::{Seat, barred};
 use std::alloc::Global;
@@ -20,7 +21,7 @@ use std::alloc::Global;
 fn first<'a>(
     alloc: Global,
     names: &Names,
-    types: &[Name],
+    types: &Typedefs,
     below: u32,
     tokens: &'a [Token],
 ) -> Result<Read<'a, First>, ReadFault>
@@ -31,7 +32,7 @@ fn first<'a>(
     let lexicon = reading(names, types);
     if is_mark_next(&lexicon, Mark::Semicolon, tokens) {
         let end = take_mark(&lexicon, Mark::Semicolon, tokens)?;
-        let types = Vec::from_slice(alloc, types)?;
+        let types = types.clone()?;
         return Ok(Read {
             value: First {
                 statement: None,
@@ -54,7 +55,7 @@ fn first<'a>(
     }
     let found = evaluated(alloc, names, types, below, tokens)?;
     let statement = Box::new(alloc, found.value)?;
-    let types = Vec::from_slice(alloc, types)?;
+    let types = types.clone()?;
     Ok(Read {
         value: First {
             statement: Some(statement),
@@ -78,7 +79,7 @@ fn no_first(lexicon: &Lexicon, tokens: &[Token]) -> ReadFault
 pub fn first_within<'a>(
     alloc: Global,
     names: &Names,
-    types: &[Name],
+    types: &Typedefs,
     left: u32,
     tokens: &'a [Token],
 ) -> Result<Read<'a, First>, ReadFault>

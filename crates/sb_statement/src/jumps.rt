@@ -7,8 +7,9 @@ ghost use Rattle.sb_tree.specs.Plain.{plain_stmt};
 
 use crate::expressions::optional;
 use crate::lexemes::reading;
-use sb_base::{Name, Names, Token};
+use sb_base::{Names, Token};
 use sb_lexicon::{Read, ReadFault, take_keyword, take_mark, take_member};
+use sb_scope::Typedefs;
 use sb_sign::{Keyword, Mark};
 use sb_tree::Stmt;
 use std::alloc::Global;
@@ -17,7 +18,7 @@ use std::alloc::Global;
 #[tactic(auto, unfolding(crate::specs::Readers::gone, crate::specs::Readers::semicolon))]
 pub fn gone<'a>(
     names: &Names,
-    types: &[Name],
+    types: &Typedefs,
     below: u32,
     tokens: &'a [Token],
 ) -> Result<Read<'a, Stmt>, ReadFault>
@@ -38,7 +39,7 @@ pub fn gone<'a>(
 #[tactic(auto, unfolding(crate::specs::Readers::broken, crate::specs::Readers::semicolon))]
 pub fn broken<'a>(
     names: &Names,
-    types: &[Name],
+    types: &Typedefs,
     below: u32,
     tokens: &'a [Token],
 ) -> Result<Read<'a, Stmt>, ReadFault>
@@ -58,7 +59,7 @@ pub fn broken<'a>(
 #[tactic(auto, unfolding(crate::specs::Readers::continued, crate::specs::Readers::semicolon))]
 pub fn continued<'a>(
     names: &Names,
-    types: &[Name],
+    types: &Typedefs,
     below: u32,
     tokens: &'a [Token],
 ) -> Result<Read<'a, Stmt>, ReadFault>
@@ -79,7 +80,7 @@ pub fn continued<'a>(
 pub fn returned<'a>(
     alloc: Global,
     names: &Names,
-    types: &[Name],
+    types: &Typedefs,
     below: u32,
     tokens: &'a [Token],
 ) -> Result<Read<'a, Stmt>, ReadFault>

@@ -12,15 +12,16 @@ ghost use Rattle.sb_specifier.specs.Specified as specified;
 ghost use Rattle.sb_statement.specs.Readers as spec;
 ghost use Rattle.sb_sign.specs.Signs as sign;
 
-use sb_base::{Name, Names, Place, Token};
+use sb_base::{Names, Place, Token};
 use sb_lexicon::{Lexicon, Read, ReadFault, is_keyword, is_mark, is_mark_next, is_type_name};
 use sb_operand::begins_expr;
 use sb_sal::{begins_note, is_bare, is_listed, is_unlisted};
+use sb_scope::Typedefs;
 use sb_sign::{Keyword, Mark};
 use sb_specifier::{begins_declaration, is_name, is_storage_word};
 
 /// By what the tokens outside of annotations are read.
-pub fn reading<'a>(names: &'a Names, types: &'a [Name]) -> Lexicon<'a>
+pub fn reading<'a>(names: &'a Names, types: &'a Typedefs) -> Lexicon<'a>
     ensures { meant result ≡ specified.reading names.now.texts types.now }
 {
     Lexicon {
@@ -45,7 +46,7 @@ pub(crate) fn front_place(tokens: &[Token], rest: &[Token]) -> Place
 }
 
 /// Whether another part of a block is next.
-pub fn is_item_next(names: &Names, types: &[Name], tokens: &[Token]) -> bool
+pub fn is_item_next(names: &Names, types: &Typedefs, tokens: &[Token]) -> bool
     ensures { result ≡ at_next
         (λ t. not (declaring.is_close_brace (specified.reading names.now.texts types.now) t))
         tokens.now }

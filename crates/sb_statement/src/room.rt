@@ -9,13 +9,14 @@ ghost use Rattle.sb_statement.specs.Readers as spec;
 ghost use Rattle.sb_tree.specs.Trees.{StmtTree};
 
 use crate::lexemes::{is_statement_next, reading};
-use sb_base::{Name, Names, Token};
+use sb_base::{Names, Token};
 use sb_lexicon::{Lexicon, ReadFault, is_mark_next};
+use sb_scope::Typedefs;
 use sb_sign::Mark;
 use sb_specifier::{Seat, barred};
 
 /// Why there is no statement where none has room.
-pub fn no_statement(names: &Names, types: &[Name], cases: bool, tokens: &[Token]) -> ReadFault
+pub fn no_statement(names: &Names, types: &Typedefs, cases: bool, tokens: &[Token]) -> ReadFault
     ensures { IsFault (spec.no_statement {A = StmtTree}
         (specified.reading names.now.texts types.now) cases (refuse expr.unexpected) tokens.now)
         result }
@@ -27,7 +28,7 @@ pub fn no_statement(names: &Names, types: &[Name], cases: bool, tokens: &[Token]
 }
 
 /// Why there is no block where none has room.
-pub fn no_block(names: &Names, types: &[Name], tokens: &[Token]) -> ReadFault
+pub fn no_block(names: &Names, types: &Typedefs, tokens: &[Token]) -> ReadFault
     ensures { IsFault (part.no_block (specified.reading names.now.texts types.now) tokens.now)
         result }
 {

@@ -11,7 +11,7 @@ mod syntax;
 mod tree;
 mod type_names;
 
-pub use cursor::{Cursor, Scope};
+pub use cursor::Cursor;
 pub use operator::{BinaryOp, UnaryOp};
 pub use syntax::{Arg, Decl, Expr, Init, Item, Note, Stmt, Storage, TypeName};
 pub use tree::Tree;

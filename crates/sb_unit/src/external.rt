@@ -7,13 +7,14 @@ ghost use Rattle.sb_declare.specs.Openings.{plain_counted, plain_declared, plain
 ghost use Rattle.sb_unit.specs.Parts as part;
 ghost use Rattle.sb_unit.specs.Readers as spec;
 
-use sb_base::{Name, Names, Token};
+use sb_base::{Names, Token};
 use sb_block::block_within;
 use sb_declare::{
     Counted, Declared, Opening, definition, first_declarator, is_nameless_next, nameless,
     names_inside, opening_within, rest_of_declaration,
 };
 use sb_lexicon::{Read, ReadFault, is_mark};
+use sb_scope::Typedefs;
 use sb_sign::Mark;
 use sb_statement::reading;
 use std::alloc::{AllocError, Global};
@@ -25,11 +26,11 @@ fn body_names(
     below: u32,
     opening: &Opening,
     first: &Counted,
-) -> Result<Vec<Name>, AllocError>
+) -> Result<Typedefs, AllocError>
     ensures { IfOk result
-        (λ ns. ns.items
+        (λ ns. ns
         ≡ part.names_in names.now.texts below (plain_opening names.now.texts below opening.now)
-        (plain_counted opening.now.specified.types.items first.now).0) }
+        (plain_counted opening.now.specified.types first.now).0) }
 {
     names_inside(alloc, opening, first)
 }
@@ -49,7 +50,7 @@ fn defined<'a>(
     requires fits { IsRoomy below opening.specified }
     ensures { GivesAs plain_declared
         (spec.defined names.now.texts below (plain_opening names.now.texts below opening.entry)
-        (plain_counted opening.entry.specified.types.items first) tokens.now) result }
+        (plain_counted opening.entry.specified.types first) tokens.now) result }
 {
     let types = body_names(alloc, names, below, &opening, &first)?;
     let body = block_within(alloc, names, &types, false, below, tokens)?;
@@ -69,7 +70,7 @@ fn is_body_next(
 ) -> bool
     ensures { result ≡ at_next
         (spec.defines names.now.texts below
-        (plain_counted opening.now.specified.types.items first.now).0) tokens.now }
+        (plain_counted opening.now.specified.types first.now).0) tokens.now }
 {
     match tokens.first() {
         Some(token) => {
@@ -96,7 +97,7 @@ fn external_behind<'a>(
     ensures { GivesAs plain_declared
         (spec.external_behind names.now.texts below
         (plain_opening names.now.texts below opening.entry)
-        (plain_counted opening.entry.specified.types.items first) tokens.now) result }
+        (plain_counted opening.entry.specified.types first) tokens.now) result }
 {
     if is_body_next(names, below, &opening, &first, tokens) {
         return defined(alloc, names, below, opening, first, tokens);
@@ -108,7 +109,7 @@ fn external_behind<'a>(
 fn one_external<'a>(
     alloc: Global,
     names: &Names,
-    types: &[Name],
+    types: &Typedefs,
     below: u32,
     tokens: &'a [Token],
 ) -> Result<Read<'a, Declared>, ReadFault>
@@ -197,7 +198,7 @@ pub fn unit<'a>(
     let start = Read {
         value: Declared {
             list: Vec::new(alloc),
-            types: Vec::new(alloc),
+            types: Typedefs::none(),
         },
         rest: tokens,
     };

@@ -49,4 +49,4 @@ statements::item_within-returns t c =
 pub statements::item_within-returns-then-left-eq0 : goal.statements::item_within-returns-then-left-eq0
 statements::item_within-returns-then-left-eq0 t c =
     rw (no_items c.args.names.now.texts c.args.left c.args.cases (plain_body c.args.body.value) c.args.body.rest.now c.if-left-eq0.true)
-    (subst (λ w. IsFault (part.no_item w c.args.cases c.args.body.rest.now) c.no_item.result) (c.reading-lexicon.ensures ∙ ap (reading c.args.names.now.texts) c.deref.ensures.value) c.no_item.ensures)
+    (subst (λ w. IsFault (part.no_item w c.args.cases c.args.body.rest.now) c.no_item.result) c.reading-lexicon.ensures c.no_item.ensures)

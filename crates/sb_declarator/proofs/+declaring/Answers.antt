@@ -78,13 +78,12 @@ members::more_members-returns-clause-read t c = (loop_over _ _ (plain_declaratio
 
 pub members::members-returns-then-left-lt2-clause-read : goal.members::members-returns-then-left-lt2-clause-read
 members::members-returns-then-left-lt2-clause-read t c =
-    subst (λ types. IsFault ((parts c.args.names.now.texts c.args.left 0).members types c.args.tokens.now) c.barred.result) c.as_slice.ensures.value
-    (rw (no_members c.args.names.now.texts c.args.left c.as_slice.result.now c.args.tokens.now c.if-left-lt2.true) c.barred.ensures)
+    rw (no_members c.args.names.now.texts c.args.left c.args.types c.args.tokens.now c.if-left-lt2.true) c.barred.ensures
 
 pub members::members-returns-clause-read : goal.members::members-returns-clause-read
 members::members-returns-clause-read t c =
     let some : 2 ≤ c.args.left = omega (arith, c.if-left-lt2.false) in
-    rw (some_members c.args.names.now.texts c.args.left c.args.types.items c.args.tokens.now some) c.some_members.ensures.read
+    rw (some_members c.args.names.now.texts c.args.left c.args.types c.args.tokens.now some) c.some_members.ensures.read
 
 pub specifier_list::structure-returns-in_err-found-clause-read : goal.specifier_list::structure-returns-in_err-found-clause-read
 specifier_list::structure-returns-in_err-found-clause-read t c =
@@ -108,28 +107,27 @@ pub members::member-returns-in_err-found-clause-read : goal.members::member-retu
 members::member-returns-in_err-found-clause-read t c =
     let texts = c.args.names.now.texts in
     let p = err_from_is_err_and c.from_residual-in_err-found.result c.from_residual-in_err-found.ensures.1 in
-    let noted = subst (λ types. notes_reader (reading texts types) c.args.below (may_stand (reading texts types) bearer.Member) c.args.tokens.now ≡ done (plain_notes c.in_ok-notes.notes.list.items) c.in_ok-notes.notes.rest.now) c.as_slice.ensures.value c.in_ok-notes.ensures.read.0 in
-    let stops = subst (λ types. IsFault (nested specifiers texts seat.Structure c.args.below types c.in_ok-notes.notes.rest.now) c.in_err-found.field-0.0) c.as_slice-2.ensures.value c.in_err-found.ensures.read in
+    let noted = c.in_ok-notes.ensures.read.0 in
+    let stops = c.in_err-found.ensures.read in
     rw (p.1, p.2) (member_faults texts c.args.below (plain_declarations c.args.so_far) c.args.tokens.now (plain_notes c.in_ok-notes.notes.list.items) c.in_ok-notes.notes.rest.now noted c.in_err-found.field-0.0 stops)
 
 pub members::member-returns-in_err-all-clause-read : goal.members::member-returns-in_err-all-clause-read
 members::member-returns-in_err-all-clause-read t c =
     let texts = c.args.names.now.texts in
     let p = err_from_is_err_and c.from_residual-in_err-all.result c.from_residual-in_err-all.ensures.1 in
-    let noted = subst (λ types. notes_reader (reading texts types) c.args.below (may_stand (reading texts types) bearer.Member) c.args.tokens.now ≡ done (plain_notes c.in_ok-notes.notes.list.items) c.in_ok-notes.notes.rest.now) c.as_slice.ensures.value c.in_ok-notes.ensures.read.0 in
-    let found = subst (λ types. nested specifiers texts seat.Structure c.args.below types c.in_ok-notes.notes.rest.now ≡ done (plain_specified c.in_ok-found.found.value, type_in (plain_specified c.in_ok-found.found.value)) c.in_ok-found.found.rest.now) c.as_slice-2.ensures.value c.in_ok-found.ensures.read in
+    let noted = c.in_ok-notes.ensures.read.0 in
+    let found = c.in_ok-found.ensures.read in
     rw (p.1, p.2) (member_then texts c.args.below (plain_declarations c.args.so_far) c.args.tokens.now (plain_notes c.in_ok-notes.notes.list.items) c.in_ok-notes.notes.rest.now noted (λ o. IsFault o c.in_err-all.field-0.0)
-    (plain_specified c.in_ok-found.found.value) c.in_ok-found.found.rest.now _ _ _ found c.as_slice-4.ensures.value c.in_ok-base.ensures.tree c.later-later.ensures c.in_err-all.ensures.read)
+    (plain_specified c.in_ok-found.found.value) c.in_ok-found.found.rest.now _ _ _ found refl c.in_ok-base.ensures.tree c.later-later.ensures c.in_err-all.ensures.read)
 
 pub members::member-returns-clause-read : goal.members::member-returns-clause-read
 members::member-returns-clause-read t c =
     let texts = c.args.names.now.texts in
-    let noted = subst (λ types. notes_reader (reading texts types) c.args.below (may_stand (reading texts types) bearer.Member) c.args.tokens.now ≡ done (plain_notes c.in_ok-notes.notes.list.items) c.in_ok-notes.notes.rest.now) c.as_slice.ensures.value c.in_ok-notes.ensures.read.0 in
-    let found = subst (λ types. nested specifiers texts seat.Structure c.args.below types c.in_ok-notes.notes.rest.now ≡ done (plain_specified c.in_ok-found.found.value, type_in (plain_specified c.in_ok-found.found.value)) c.in_ok-found.found.rest.now) c.as_slice-2.ensures.value c.in_ok-found.ensures.read in
-    let all : declared_members texts c.args.below (plain_notes c.in_ok-notes.notes.list.items) c.in_ok-found.found.value.types.items (plain_type c.in_ok-base.base.tree.value) (plain_later c.later-later.result) (plain_decls c.args.so_far.list.items) c.in_ok-found.found.rest.now ≡ done (record { list = plain_decls c.in_ok-all.all.list.items; types = c.in_ok-found.found.value.types.items }) c.in_ok-all.all.rest.now =
-    subst (λ types. declared_members texts c.args.below (plain_notes c.in_ok-notes.notes.list.items) types (plain_type c.in_ok-base.base.tree.value) (plain_later c.later-later.result) (plain_decls c.args.so_far.list.items) c.in_ok-found.found.rest.now ≡ done (record { list = plain_decls c.in_ok-all.all.list.items; types = types }) c.in_ok-all.all.rest.now) c.as_slice-4.ensures.value c.in_ok-all.ensures.read.0 in (
+    let noted = c.in_ok-notes.ensures.read.0 in
+    let found = c.in_ok-found.ensures.read in
+    let all : declared_members texts c.args.below (plain_notes c.in_ok-notes.notes.list.items) c.in_ok-found.found.value.types (plain_type c.in_ok-base.base.tree.value) (plain_later c.later-later.result) (plain_decls c.args.so_far.list.items) c.in_ok-found.found.rest.now ≡ done (record { list = plain_decls c.in_ok-all.all.list.items; types = c.in_ok-found.found.value.types }) c.in_ok-all.all.rest.now = c.in_ok-all.ensures.read.0 in (
       member_then texts c.args.below (plain_declarations c.args.so_far) c.args.tokens.now (plain_notes c.in_ok-notes.notes.list.items) c.in_ok-notes.notes.rest.now noted
-          (λ o. o ≡ done (record { list = plain_decls c.in_ok-all.all.list.items; types = c.in_ok-found.found.value.types.items }) c.in_ok-all.all.rest.now)
+          (λ o. o ≡ done (record { list = plain_decls c.in_ok-all.all.list.items; types = c.in_ok-found.found.value.types }) c.in_ok-all.all.rest.now)
           (plain_specified c.in_ok-found.found.value) c.in_ok-found.found.rest.now _ _ _ found refl c.in_ok-base.ensures.tree c.later-later.ensures all,
       c.in_ok-all.ensures.read.1,
     )
@@ -158,7 +156,7 @@ specifier_list::specified-returns-then-is_tag_next-clause-read t c =
 pub specifier_list::specifiers-returns-clause-read : goal.specifier_list::specifiers-returns-clause-read
 specifier_list::specifiers-returns-clause-read t c =
     let texts = c.args.names.now.texts in
-    let start : plain_specified c.none-none.result ≡ unspecified c.args.types.now = c.none-none.ensures.none ∙ ap unspecified c.in_ok-from_slice.ensures.items in
+    let start : plain_specified c.none-none.result ≡ unspecified c.args.types.now = c.none-none.ensures.none ∙ ap unspecified c.in_ok-clone.ensures.cases in
     let words = subst (λ s. looped (is_specifier_word (reading texts [])) (nested specified texts c.args.seat c.args.below) s c.args.tokens.now ≡ done (plain_specified c.in_ok-words.words.value) c.in_ok-words.words.rest.now) start c.in_ok-words.ensures.read in
     rw (specifiers_at texts c.args.seat c.args.below c.args.types.now c.args.tokens.now (plain_specified c.in_ok-words.words.value) (plain_specified c.in_ok-all.all.value) c.in_ok-words.words.rest.now c.in_ok-all.all.rest.now words c.in_ok-all.ensures.read) c.completed.ensures.read
 
@@ -284,7 +282,7 @@ parameters::parameter_behind-returns-clause-read t c =
     let before = plain_decls c.args.so_far.list.items in
     let tree = simple_decl notes base (plain_declarator c.args.lexicon.now.types.now d) c.args.place in
     let list : plain_decls c.push.new.self.items ≡ before ++ (tree ∷ []) = ap plain_decls c.in_ok-push.ensures.items ∙ more_decls c.args.so_far.list.items c.in_ok-tree.tree ∙ ap (λ t. before ++ (t ∷ [])) c.in_ok-tree.ensures in
-    let types : c.without_name-types.result.items ≡ hidden_by d.name c.args.lexicon.now.types.now = c.without_name-types.ensures ∙ ap (hidden_by d.name) c.in_ok-from_slice.ensures.items in
+    let types : c.in_ok-types.types ≡ hidden_by d.name c.args.lexicon.now.types.now = c.in_ok-types.ensures in
     let deep = depth_of_simple notes base d.pieces.items d.name (names_inside [] d.inner) c.args.place c.args.notes.depth c.args.base.depth d.depth c.requires.notes c.requires.base c.in_ok-found.ensures.read.1 in
     let all : depth_of_decls (decl_list (plain_decls c.push.new.self.items)) ≡ max (depth_of_decls (decl_list before)) (depth_of_decl tree) = ap (λ l. depth_of_decls (decl_list l)) list ∙ depth_of_more_decls before tree in (
       parameter_behind_at (meant c.args.lexicon.now) c.args.below (c.args.below - c.args.base.depth) notes base c.args.place before c.args.so_far.rest.now (plain_declarator c.args.lexicon.now.types.now d) rest (ap (λ n. c.args.below - n) c.requires.base) c.in_ok-found.ensures.read.0
@@ -295,6 +293,6 @@ parameters::parameter_behind-returns-clause-read t c =
 pub parameters::parameter-returns-clause-read : goal.parameters::parameter-returns-clause-read
 parameters::parameter-returns-clause-read t c =
     let texts = c.args.names.now.texts in
-    let noted = subst (λ types. notes_reader (reading texts types) c.args.below (may_stand (reading texts types) bearer.Parameter) c.args.tokens.now ≡ done (plain_notes c.in_ok-notes.notes.list.items) c.in_ok-notes.notes.rest.now) c.as_slice.ensures.value c.in_ok-notes.ensures.read.0 in
-    let said = subst (λ types. nested spec.specifiers texts seat.Prototype c.args.below types c.in_ok-notes.notes.rest.now ≡ done (plain_specified c.in_ok-found.found.value, type_in (plain_specified c.in_ok-found.found.value)) c.in_ok-found.found.rest.now) c.as_slice-2.ensures.value c.in_ok-found.ensures.read in
-    rw (parameter_at texts c.args.below (plain_declarations c.args.so_far) c.args.tokens.now (plain_notes c.in_ok-notes.notes.list.items) c.in_ok-notes.notes.rest.now (plain_specified c.in_ok-found.found.value) (type_in (plain_specified c.in_ok-found.found.value)) c.in_ok-found.found.rest.now noted said, sym c.as_slice-3.ensures.value, sym c.in_ok-base.ensures.tree, sym c.first_place-place.ensures) c.parameter_behind.ensures.read
+    let noted = c.in_ok-notes.ensures.read.0 in
+    let said = c.in_ok-found.ensures.read in
+    rw (parameter_at texts c.args.below (plain_declarations c.args.so_far) c.args.tokens.now (plain_notes c.in_ok-notes.notes.list.items) c.in_ok-notes.notes.rest.now (plain_specified c.in_ok-found.found.value) (type_in (plain_specified c.in_ok-found.found.value)) c.in_ok-found.found.rest.now noted said, sym c.in_ok-base.ensures.tree, sym c.first_place-place.ensures) c.parameter_behind.ensures.read

@@ -12,6 +12,5 @@ returns c =
         sym c.shared-common.ensures.noted,
         sym c.shared-common.ensures.storage,
         sym c.depth_of-depth.ensures,
-        sym c.as_slice.ensures.value,
       ) c.declarator_on.ensures.read;
     }

@@ -10,7 +10,7 @@ returns c =
     let below = c.args.below in
     let ts = c.args.tokens.now in
     let o = plain_opening texts below c.args.opening in
-    let first = plain_counted c.args.opening.specified.types.items c.args.first in
+    let first = plain_counted c.args.opening.specified.types c.args.first in
     let shared = c.shared-common.ensures in
     record {
       read = rw (rest_is texts below o c.shared-common.result (rw (shared.outer, shared.tokens) refl) shared.noted shared.storage shared.later first ts)
