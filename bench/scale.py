@@ -4,9 +4,9 @@
 Usage: scale.py BINARY   (as crates/prefast/out/prefast)
 Checks texts of one form in three sizes each, and prints the time and how much faster than the text it grew (1.0: as the
 text): functions that cycle a bounded store and one that is off by one; a file of comments, up to 4 MiB; uses of short
-macros, up to 100,000; 64 headers, each included by the one before it, up to 4 MiB in all; macros that are defined and
-used, up to 20,000; warnings in one function, up to 64,000. Then forms whose time is known to grow as the square of the
-text: declarators behind as many annotations, typedef names that are defined and used.
+macros, up to 100,000; 64 headers, each included by the one before it, up to 4 MiB in all. Then, from 4,000 to 64,000 of
+each: macros that are defined and used, warnings in one function, declarators in declarations of 20 behind 20 annotations,
+typedef names that are defined and used.
 """
 import os
 import subprocess
@@ -46,7 +46,8 @@ def includes(size):
 
 
 def declarators(count):
-    return {"t.c": "_Check_return_ " * count + "int " + ", ".join(f"f{k}(int n)" for k in range(count)) + ";\n"}
+    lists = (", ".join(f"f{k}(int n)" for k in range(first, first + 20)) for first in range(0, count, 20))
+    return {"t.c": "".join("_Check_return_ " * 20 + f"int {them};\n" for them in lists)}
 
 
 def typedefs(count):
@@ -80,10 +81,10 @@ SERIES = (
     ("bytes of comments", comments, (FILE_BYTES // 4, FILE_BYTES // 2, FILE_BYTES), lambda n: "0 warnings in 0 functions"),
     ("uses of macros", macros, (10000, 50000, 100000), lambda n: f"0 warnings in {n // 8} functions"),
     ("bytes of 64 nested headers", includes, (FILE_BYTES // 4, FILE_BYTES // 2, FILE_BYTES), lambda n: "0 warnings in 0 functions"),
-    ("macros", definitions, (5000, 10000, 20000), lambda n: f"t.c:{n + 1}:1: {UNBUILT}"),
+    ("macros", definitions, (4000, 16000, 64000), lambda n: f"t.c:{n + 1}:1: {UNBUILT}"),
     ("warnings in a function", warnings, (4000, 16000, 64000), lambda n: f"{n} warnings in 1 functions"),
-    ("declarators behind annotations", declarators, (25, 50, 100), lambda n: f"t.c:1:1: {UNBUILT}"),
-    ("typedef names", typedefs, (2000, 4000, 8000), lambda n: f"t.c:1:1: {UNBUILT}"),
+    ("declarators behind annotations", declarators, (4000, 16000, 64000), lambda n: f"t.c:1:1: {UNBUILT}"),
+    ("typedef names", typedefs, (4000, 16000, 64000), lambda n: f"t.c:1:1: {UNBUILT}"),
 )
 
 
