@@ -4,3 +4,4 @@ pub mod Gathering
 pub mod Sorting
 mod Nodes
 pub mod Rounding
+pub mod Spelled

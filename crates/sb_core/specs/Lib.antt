@@ -7,4 +7,7 @@ pub mod Sorts
 pub mod Labels
 pub mod Assigned
 pub mod Formed
+pub mod Spellings
+pub mod Reports
+pub mod Judging
 pub mod Laws

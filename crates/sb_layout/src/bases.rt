@@ -96,11 +96,7 @@ fn base_of_number(bits: u8) -> Base
 }
 
 /// The base of a type, where those of its parts are known.
-pub(crate) fn base_of(
-    alloc: Global,
-    known: &[Option<Base>],
-    kind: &Kind,
-) -> Result<Option<Base>, Fault>
+pub fn base_of(alloc: Global, known: &[Option<Base>], kind: &Kind) -> Result<Option<Base>, Fault>
     requires small { All IsSmallIf known.now }
     ensures gives { IfOk result (λ b. b ≡ core.base_of known.now kind.now) }
     ensures small { IfOk result IsSmallIf }

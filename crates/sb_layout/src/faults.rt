@@ -4,7 +4,7 @@ use std::alloc::{AllocError, AllocFailed};
 
 /// A type is too big, or memory ran out.
 #[derive(Clone, Copy)]
-pub(crate) enum Fault {
+pub enum Fault {
     TooBig,
     Memory,
 }

@@ -8,4 +8,6 @@ mod spots;
 mod structs;
 mod table;
 
+pub use bases::base_of;
+pub use faults::Fault;
 pub use table::layout;

@@ -3,6 +3,7 @@ use Rattle.sb_core.specs.Layout.{known_after}
 use Rattle.sb_core.proofs.Beginning.{begins_formed}
 use Rattle.sb_core.proofs.Rounding.{rounds_up}
 use Rattle.sb_core.proofs.Sorts.{one_sort, number_type, stays_inside}
+use Rattle.sb_core.proofs.Spelled.{spelled_once}
 use Rattle.sb_core.proofs.meaning.laws.Goals as goal
 
 pub returns-clause-one_sort : goal.returns-clause-one_sort
@@ -26,3 +27,6 @@ returns-clause-first c = (refl, refl)
 
 pub returns-clause-padded : goal.returns-clause-padded
 returns-clause-padded c = (refl, refl)
+
+pub returns-clause-spelled : goal.returns-clause-spelled
+returns-clause-spelled c = spelled_once
