@@ -1,0 +1,9 @@
+pub mod Numbers
+pub mod Values
+pub mod Constants
+pub mod Folding
+pub mod Laws
+pub mod Classes
+pub mod Operators
+pub mod Assignments
+pub mod TypeLaws
