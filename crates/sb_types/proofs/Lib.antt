@@ -1,0 +1,5 @@
+pub mod Places
+pub mod FirstTypes
+pub mod Added
+pub mod Completed
+pub mod Ordered

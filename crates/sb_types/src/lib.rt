@@ -1,0 +1,11 @@
+//! The table of types of a set while it is elaborated (C99 6.2.5, 6.7.5).
+#![tactic(auto)]
+
+mod arrays;
+mod fault;
+mod meaning;
+mod table;
+
+pub use fault::TableFault;
+pub use meaning::beginning;
+pub use table::TypeTable;
