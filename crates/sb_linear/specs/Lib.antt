@@ -1,0 +1,4 @@
+pub mod Scopes
+pub mod Sizes
+pub mod Meaning
+pub mod Laws

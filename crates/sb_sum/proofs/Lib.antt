@@ -1,0 +1,4 @@
+pub mod Merging
+pub mod Ordering
+pub mod Products
+pub mod Values
