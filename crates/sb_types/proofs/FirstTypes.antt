@@ -108,11 +108,11 @@ first_table = record {
 }
 
 -- no arrays are among them
-abbrev is_no_array : Kind → Bool
+abbrev pub is_no_array : Kind → Bool
 is_no_array (kind.Array t count) = false
 is_no_array k = true
 
-no_array : (ks : List Kind) → list_all is_no_array ks ≡ true → (i : ℕ) (t : TypeId) (n : ℕ) → slice_get ks i ≡ Some (kind.Array t n) → ⊥
+pub no_array : (ks : List Kind) → list_all is_no_array ks ≡ true → (i : ℕ) (t : TypeId) (n : ℕ) → slice_get ks i ≡ Some (kind.Array t n) → ⊥
 no_array [] e i t n h = absurd (cc)
 no_array (k ∷ ks) e zero t n h =
     let same : k ≡ kind.Array t n = cc in

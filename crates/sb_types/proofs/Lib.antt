@@ -3,3 +3,9 @@ pub mod FirstTypes
 pub mod Added
 pub mod Completed
 pub mod Ordered
+pub mod Elements
+pub mod CompositeLaws
+pub mod Rising
+pub mod Composed
+pub mod Alike
+pub mod OnlyComposite

@@ -13,7 +13,7 @@ use Rattle.sb_types.proofs.Completed.{got_set, got_other}
 behind_along : (m n : ℕ) (k l : Kind) → m ≡ n → k ≡ l → IsBehind n (Some k) → IsBehind m (Some l)
 behind_along m n k l e same h = subst (λ (i : ℕ). IsBehind i (Some l)) (sym e) (subst (λ (x : Kind). IsBehind n (Some x)) same h)
 
-behind_by : (n : ℕ) (x y : Option Kind) → x ≡ y → IsBehind n x → IsBehind n y
+pub behind_by : (n : ℕ) (x y : Option Kind) → x ≡ y → IsBehind n x → IsBehind n y
 behind_by n x y e h = subst (λ (o : Option Kind). IsBehind n o) e h
 
 pub ordered_more : (ks : List Kind) (k : Kind) → IsOrdered ks → IsBehind (length ks) (Some k) → IsOrdered (ks ++ k ∷ [])

@@ -1,5 +1,5 @@
 -- The table of types while it is made: with each type its size, and the pointer to it.
-use Rattle.std.specs.Prelude.{◌≡◌, ℕ, ◌≤◌, length, List, [], ◌∷◌, slice_get, slice_index_or, Option, Some, None, is_some, Bool, Result, Ok, Err}
+use Rattle.std.specs.Prelude.{◌≡◌, ℕ, ◌≤◌, length, List, [], ◌∷◌, slice_get, slice_index_or, Option, Some, None, is_some, Bool, true, Result, Ok, Err}
 use Rattle.sb_core.specs.declared.layout.Base.{Base}
 use Rattle.sb_core.specs.declared.types.Kind.{Kind}
 use Rattle.sb_core.specs.declared.types.Kind.TheVariants as kind
@@ -40,11 +40,16 @@ pub record AreArrays (kinds : List Kind) (array : (of count : ℕ) → Option Ty
   pub found : (of count : ℕ) (t : TypeId) → array of count ≡ Some t → slice_get kinds t.0 ≡ Some (kind.Array (record { 0 = of }) count)
   pub once : (of count t : ℕ) → slice_get kinds t ≡ Some (kind.Array (record { 0 = of }) count) → array of count ≡ Some (record { 0 = t })
 
+-- an array has elements of a complete type (C99 6.7.5.2 paragraph 1)
+abbrev pub HaveElements : List Kind → Type 0
+HaveElements kinds = (t : ℕ) (of : TypeId) (count : ℕ) → slice_get kinds t ≡ Some (kind.Array of count) → is_complete kinds of ≡ true
+
 pub record IsTypeTable (table : TypeTable) : Type 0 where
   pub types : IsTable (kinds_of table) table.bases.items table.pointers.items
   pub arrays : AreArrays (kinds_of table) (array_in table.arrays)
   pub few : length (kinds_of table) ≤ 16777216
   pub ordered : IsOrdered (kinds_of table)
+  pub elements : HaveElements (kinds_of table)
 
 -- the base of a type that is added is laid out by its parts, and small
 abbrev pub IsLaid : List (Option Base) → Kind → Option Base → Type 0
@@ -71,6 +76,15 @@ IsStruct (Some (kind.Pointer t)) tag members = ⊥
 IsStruct (Some (kind.Array t count)) tag members = ⊥
 IsStruct (Some (kind.Struct g ms)) tag members = (g ≡ tag) × (ms.items ≡ members)
 
+-- the members of a struct
+abbrev pub members_of : Option Kind → List Member
+members_of None = []
+members_of (Some kind.Void) = []
+members_of (Some (kind.Number bits signed)) = []
+members_of (Some (kind.Pointer t)) = []
+members_of (Some (kind.Array t count)) = []
+members_of (Some (kind.Struct tag members)) = members.items
+
 abbrev pub are_complete : List Kind → List Member → Bool
 are_complete kinds members = list_all (λ m. is_complete kinds m.type_id) members
 
@@ -91,6 +105,12 @@ WhereFault big full (Err e) = IfFault big full e
 -- the table holds as many types as it may, and is as it was
 abbrev pub IsFull : (before after : TypeTable) → Type 0
 IsFull before after = (16777216 ≤ length (kinds_of before)) × (after ≡ before)
+
+-- the table holds as many types as it may, among them all that were there
+pub record HasFilled (before after : TypeTable) : Type 0 where
+  pub full : 16777216 ≤ length (kinds_of after)
+  pub keeps : Keeps before after
+  pub table : IsTypeTable after
 
 -- ---- the types 0 to 12
 

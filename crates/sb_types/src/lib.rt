@@ -2,10 +2,11 @@
 #![tactic(auto)]
 
 mod arrays;
+mod composite;
 mod fault;
 mod meaning;
 mod table;
 
 pub use fault::TableFault;
-pub use meaning::beginning;
+pub use meaning::{beginning, composites};
 pub use table::TypeTable;

@@ -97,7 +97,7 @@ fn array_of(count: u64, of: Base) -> Option<Base>
 
 impl TypeTable {
     /// The types 0 to 12.
-    #[tactic(auto, using(crate::proofs::FirstTypes::first_table, crate::proofs::Ordered::first_ordered))]
+    #[tactic(auto, using(crate::proofs::FirstTypes::first_table, crate::proofs::Ordered::first_ordered, crate::proofs::Elements::first_elements))]
     pub fn new(alloc: Global) -> Result<TypeTable, TableFault>
         ensures kinds { IfOk result (λ table. spec.kinds_of table ≡ first_types) }
         ensures table { IfOk result spec.IsTypeTable }
@@ -185,6 +185,17 @@ impl TypeTable {
         match self.bases.get(t.0 as usize) {
             Some(b) => *b,
             None => None,
+        }
+    }
+
+    /// The members of a struct in their order: none of another type, or of a struct that is not completed (6.7.2.1).
+    pub fn members(&self, t: TypeId) -> &[Member]
+        ensures { result.now ≡ spec.members_of (slice_get (spec.kinds_of self.now) t.0) }
+    {
+        match self.types.list.get(t.0 as usize) {
+            Some(Kind::Struct(_, members)) => members,
+            Some(Kind::Void | Kind::Number { .. } | Kind::Pointer(_) | Kind::Array(..)) | None =>
+                &[],
         }
     }
 

@@ -5,6 +5,7 @@ use Rattle.sb_types.specs.Arrays.{array_in}
 use Rattle.sb_types.specs.Table.{kinds_of}
 use Rattle.sb_types.proofs.Added.{added, array_added, few_more, complete_within}
 use Rattle.sb_types.proofs.Ordered.{ordered_more}
+use Rattle.sb_types.proofs.Elements.{elements_more, element_complete}
 use Rattle.sb_types.proofs.table.TypeTable.array_of.Goals as goal
 
 pub returns-clause-table : goal.returns-clause-table
@@ -25,4 +26,8 @@ returns-clause-table c = record {
       rw c.in_ok-t.ensures.kinds
       (ordered_more (kinds_of c.args.self.now) (Array c.args.of c.args.count) c.requires.table.ordered
       (complete_within (kinds_of c.args.self.now) c.args.of c.requires.element));
+  elements =
+      rw c.in_ok-t.ensures.kinds
+      (elements_more (kinds_of c.args.self.now) (Array c.args.of c.args.count) c.requires.table.elements
+      (element_complete (kinds_of c.args.self.now) c.args.of c.args.count c.requires.element));
 }

@@ -7,6 +7,7 @@ use Rattle.sb_types.specs.Arrays.{array_in}
 use Rattle.sb_types.specs.Table.{kinds_of}
 use Rattle.sb_types.proofs.Completed.{all_small, struct_known, got_set, got_other, completed, arrays_completed, opened_by, opened_within, few_still}
 use Rattle.sb_types.proofs.Ordered.{ordered_set}
+use Rattle.sb_types.proofs.Elements.{elements_set}
 use Rattle.sb_types.proofs.table.TypeTable.complete.Goals as goal
 
 pub base_of-requires : goal.base_of-requires
@@ -47,4 +48,7 @@ returns-clause-table c =
           (arrays_completed (kinds_of before) (array_in before.arrays) c.requires.table.arrays c.args.t.0 opened.kind_there new opened.is opened.no_array (λ u n e. absurd (cc)));
       few = rw c.put.ensures.kinds (few_still (kinds_of before) new c.args.t.0 c.requires.table.few);
       ordered = rw c.put.ensures.kinds (ordered_set (kinds_of before) c.args.t.0 opened.kind_there new opened.is c.requires.table.ordered tt);
+      elements =
+          rw c.put.ensures.kinds
+          (elements_set (kinds_of before) c.args.t.0 opened.kind_there new opened.is opened.incomplete (λ u n e. absurd (cc)) c.requires.table.elements);
     }

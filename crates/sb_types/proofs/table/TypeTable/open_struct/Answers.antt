@@ -7,6 +7,7 @@ use Rattle.sb_types.specs.Arrays.{array_in}
 use Rattle.sb_types.specs.Table.{kinds_of}
 use Rattle.sb_types.proofs.Added.{added, arrays_stay, few_more}
 use Rattle.sb_types.proofs.Ordered.{ordered_more}
+use Rattle.sb_types.proofs.Elements.{elements_more}
 use Rattle.sb_types.proofs.table.TypeTable.open_struct.Goals as goal
 
 pub returns-clause-table : goal.returns-clause-table
@@ -22,4 +23,5 @@ returns-clause-table c = record {
       rw c.in_ok-t.ensures.kinds
       (few_more (kinds_of c.args.self.now) (Struct c.args.tag c.new.result) c.in_ok-t.t.0 c.in_ok-t.ensures.gives c.in_ok-t.ensures.few);
   ordered = rw c.in_ok-t.ensures.kinds (ordered_more (kinds_of c.args.self.now) (Struct c.args.tag c.new.result) c.requires.table.ordered tt);
+  elements = rw c.in_ok-t.ensures.kinds (elements_more (kinds_of c.args.self.now) (Struct c.args.tag c.new.result) c.requires.table.elements (λ t n e. absurd (cc)));
 }

@@ -4,6 +4,7 @@ use Rattle.sb_types.specs.Arrays.{array_in}
 use Rattle.sb_types.specs.Table.{kinds_of}
 use Rattle.sb_types.proofs.Added.{pointer_added, absent_at, arrays_stay, few_more}
 use Rattle.sb_types.proofs.Ordered.{ordered_more}
+use Rattle.sb_types.proofs.Elements.{elements_more}
 use Rattle.sb_types.proofs.table.TypeTable.pointer_to.Goals as goal
 
 pub returns-clause-table : goal.returns-clause-table
@@ -19,4 +20,5 @@ returns-clause-table c = record {
       rw c.in_ok-p.ensures.kinds
       (few_more (kinds_of c.args.self.now) (Pointer c.args.t) c.in_ok-p.p.0 c.in_ok-p.ensures.gives c.in_ok-p.ensures.few);
   ordered = rw c.in_ok-p.ensures.kinds (ordered_more (kinds_of c.args.self.now) (Pointer c.args.t) c.requires.table.ordered c.requires.within);
+  elements = rw c.in_ok-p.ensures.kinds (elements_more (kinds_of c.args.self.now) (Pointer c.args.t) c.requires.table.elements (λ t n e. absurd (cc)));
 }
